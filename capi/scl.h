@@ -1,23 +1,28 @@
 /* scl.h: what a compiler's command line means, and the command to run in its place. Link libscl.a (or -lscl).
  *
- * The library has four calls, all over texts. What is new in a later one is a row of an answer, or a setting of a request: no
+ * The library has seven calls, all over texts. What is new in a later one is a row of an answer, or a setting of a request: no
  * call changes. All else in this header is C that is compiled into the client: it writes a request's text, and fills structs
- * from an answer's rows. So the structs are the client's own, and a client runs with each library of its protocol.
+ * from an answer's rows. So the structs are the client's own, and a client runs with each library of its protocol that has these calls.
  *
  * - Rows that this header does not know are passed over. But if a row `key` or `keep` is not known, or a row has more fields than
  *   are known, nothing may be kept: has_unknown is true, and is_cacheable false.
  * - SCL_NEWER: one side does not know what the other says, the library a line `setting`, or this header the answer,
  *   as of another protocol. Then run the given words, and keep nothing.
  *
- * A call reads and writes only the memory that is passed to it. It keeps nothing between calls, opens no file,
- * starts no process, and takes memory from malloc while it runs and gives it back.
+ * What is known of compilers is a text, the catalogue. scl_describe reads it for each description, and
+ * scl_describe_with in each call, in about 1.5 ms.
+ * Who asks more often has it read once, by scl_catalogue_new, and asks by the handle, which any number of threads may share.
  *
- * What is proved of the four calls (crates/scl_c) is proved of callers that keep these premises, which nothing checks:
+ * A call reads and writes only the memory that is passed to it, or that is behind its handle. It keeps nothing between calls, opens no
+ * file, starts no process, and takes memory from malloc while it runs and gives it back; that behind a handle stays until it is freed.
+ *
+ * What is proved of the seven calls (crates/scl_c) is proved of callers that keep these premises, which nothing checks:
  *
  * - Each pointer with a length points at that many bytes. With the length 0 it may be anything but NULL; NULL, of which nothing is
  *   proved, does no harm either, and is as good as an empty text.
  * - `wanted` points at a size_t. What a call writes overlaps nothing that it reads, and nothing else that it writes; no other
  *   thread touches it meanwhile.
+ * - A handle is one that scl_catalogue_new gave. No call that has it runs while scl_catalogue_drop frees it, or after that.
  * - malloc, realloc and free are of one allocator, and a block is aligned to each power of two up to 16 that divides its size.
  * - No call is made from a signal handler, or in a forked child of a process with threads.
  *
@@ -63,10 +68,26 @@ int32_t scl_run(const uint8_t *request, size_t request_len, uint8_t *room, size_
  * *wanted its number. */
 int32_t scl_describe(const uint8_t *request, size_t request_len, uint8_t *room, size_t room_len, size_t *wanted);
 
-/* The same with the hazards of a catalogue whose text is passed in (catalogue/README.md). SCL_BAD_CATALOGUE: *wanted is the
- * number of its first wrong line, and the request was not read. */
+/* The same by a catalogue whose text is passed in (catalogue/README.md): an entry of it adds, or by its name replaces, a built-in one.
+ * SCL_BAD_CATALOGUE: *wanted is the number of its first wrong line, and the request was not read. */
 int32_t scl_describe_with(const uint8_t *catalogue, size_t catalogue_len, const uint8_t *request, size_t request_len, uint8_t *room,
                           size_t room_len, size_t *wanted);
+
+/* A catalogue that was read. */
+typedef struct scl_catalogue scl_catalogue;
+
+/* Reads the catalogue that is built in, and that of this text over it, as scl_describe_with does; an empty text is none. SCL_OK:
+ * *handle is made, which scl_catalogue_drop frees. SCL_BAD_CATALOGUE: *wanted is the number of the first wrong line of the text, else
+ * it is 0. SCL_NO_MEMORY: out of memory. Where the status is not SCL_OK, *handle is as it was. */
+int32_t scl_catalogue_new(const uint8_t *text, size_t text_len, scl_catalogue **handle, size_t *wanted);
+
+/* scl_describe by the catalogue of a handle, which is not NULL. It reads what is behind the handle, and does not change it: one handle
+ * may be asked by any number of threads at once. */
+int32_t scl_catalogue_describe(const scl_catalogue *handle, const uint8_t *request, size_t request_len, uint8_t *room, size_t room_len,
+                               size_t *wanted);
+
+/* Frees the catalogue of a handle, which is not NULL. */
+void scl_catalogue_drop(scl_catalogue *handle);
 
 /* ---- structs: in C, and nothing is proved of what follows */
 
@@ -112,11 +133,12 @@ typedef struct scl_request {
     bool wants_options;         /* the answer has what became of each option, and the index of the word that is refused */
     bool wants_key;             /* the answer has the rows of the key, whether the result may be kept, and what it reads, writes .. */
     scl_bytes version;          /* the text of the compiler's version, in UTF-8 (docs/PROTOCOL.md, `setting version`) */
-    scl_bytes catalogue;        /* the text of the catalogue of hazards; empty: the built-in one */
+    scl_bytes catalogue;        /* the text of a catalogue over the built-in one; empty: the built-in one alone */
     scl_words settings;         /* more lines `setting`: what follows that word, as `bound 10` */
     scl_words bases;            /* directories that differ from checkout to checkout, absolute and without a NUL: paths of the key are
                                    written by them (docs/PROTOCOL.md, A key in every checkout) */
     bool keep_shown;            /* each word `-D..` counts in the key: there is no row `key shown` */
+    const scl_catalogue *handle; /* whose catalogue is asked, and then `catalogue` is not read; NULL: a catalogue is read in each call */
 } scl_request;
 
 enum scl_outcome { SCL_COMPILED = 0, SCL_CANNOT_CACHE = 1, SCL_NOT_COMPILATION = 2 };
@@ -316,6 +338,11 @@ extern "C" {
 
 /* ---- what a client calls */
 
+/* Frees the catalogue of a handle, if there is one. */
+static inline void scl_catalogue_free(scl_catalogue *handle) {
+    if (handle) scl_catalogue_drop(handle);
+}
+
 /* A request of a compiler and words, with no directory, environment and files, the default limits, and no wishes. */
 static inline scl_request scl_request_of(const char *compiler, const scl_bytes *words, size_t len) {
     scl_request it;
@@ -350,16 +377,21 @@ static inline size_t scl_first_room(size_t request_len) {
     return 16384 + 14 * of_words + (request_len < SIZE_MAX / 4 ? 2 * request_len : 0);
 }
 
-/* Answers a request's text with memory of its own: by scl_describe_with, if there is a catalogue. */
-static inline int32_t scl_respond_new(scl_respond *respond, scl_bytes catalogue, scl_bytes request, char **text, size_t *wanted) {
+/* Answers a request's text with memory of its own: by the handle, if there is one; else by scl_describe_with, if there is a catalogue. */
+static inline int32_t scl_respond_new(scl_respond *respond, const scl_catalogue *handle, scl_bytes catalogue, scl_bytes request, char **text,
+                                      size_t *wanted) {
     size_t size = scl_first_room(request.len);
     for (;;) {
         char *block = SCL_TO(char *, malloc(size + 1));
         int32_t status;
         *wanted = 0;
         if (!block) return SCL_NO_MEMORY;
-        status = catalogue.len ? scl_describe_with(catalogue.at, catalogue.len, request.at, request.len, SCL_CAST(uint8_t *, block), size, wanted)
-                               : respond(request.at, request.len, SCL_CAST(uint8_t *, block), size, wanted);
+        if (handle)
+            status = scl_catalogue_describe(handle, request.at, request.len, SCL_CAST(uint8_t *, block), size, wanted);
+        else if (catalogue.len)
+            status = scl_describe_with(catalogue.at, catalogue.len, request.at, request.len, SCL_CAST(uint8_t *, block), size, wanted);
+        else
+            status = respond(request.at, request.len, SCL_CAST(uint8_t *, block), size, wanted);
         if (status == SCL_OK) {
             block[*wanted] = 0;
             *text = block;
@@ -374,7 +406,12 @@ static inline int32_t scl_respond_new(scl_respond *respond, scl_bytes catalogue,
 /* Answers a request's text with memory of its own, as: scl_text_new(scl_describe, request, strlen(request), &text, &wanted).
  * Only where the status is SCL_OK is there a text, with a NUL after it, which free gives back. SCL_SHORT is never answered. */
 static inline int32_t scl_text_new(scl_respond *respond, const void *request, size_t request_len, char **text, size_t *wanted) {
-    return scl_respond_new(respond, scl_no_bytes[0], scl_bytes_of(request, request_len), text, wanted);
+    return scl_respond_new(respond, SCL_NULL, scl_no_bytes[0], scl_bytes_of(request, request_len), text, wanted);
+}
+
+/* The same by scl_catalogue_describe, or by scl_describe where the handle is NULL. */
+static inline int32_t scl_catalogue_text_new(const scl_catalogue *handle, const void *request, size_t request_len, char **text, size_t *wanted) {
+    return scl_respond_new(scl_describe, handle, scl_no_bytes[0], scl_bytes_of(request, request_len), text, wanted);
 }
 
 /* The description of the answer to a request, with memory of its own, as scl_text_new gives it. */
@@ -383,7 +420,7 @@ static inline int32_t scl_description_new(const scl_request *request, char **tex
     int32_t status = SCL_NO_MEMORY;
     *wanted = 0;
     scl_put_request(&to, request);
-    if (!to.has_failed) status = scl_respond_new(scl_describe, request->catalogue, scl_bytes_of(to.at, to.len), text, wanted);
+    if (!to.has_failed) status = scl_respond_new(scl_describe, request->handle, request->catalogue, scl_bytes_of(to.at, to.len), text, wanted);
     free(to.at);
     /* (the first line names the compiler; each other one is right, or not known) */
     return status == SCL_BAD && *wanted != 1 ? SCL_NEWER : status;
@@ -620,7 +657,7 @@ static inline int32_t scl_depfile(const scl_request *request, scl_bytes prefix, 
     scl_put(&to, "\t");
     scl_put_line(&to, "", messages);
     scl_put_command(&to, request);
-    if (!to.has_failed) told = scl_text_new(scl_describe, to.at, to.len, &made->block, &size);
+    if (!to.has_failed) told = scl_catalogue_text_new(request->handle, to.at, to.len, &made->block, &size);
     free(to.at);
     if (told != SCL_OK) return told == SCL_BAD && size != 2 && size != 3 ? SCL_NEWER : told;
     rows = scl_bytes_of(made->block, size);

@@ -1,6 +1,7 @@
 """What a compiler's command line asks for, and the command to run in its place: run(text) and describe(text) answer a
 request's text, rows(text) takes a description apart, and ask(..) answers words, pairs and files as bytes. All but rows
-call libscl.so.1: the file that SCL_LIBRARY names, or the one beside this file, or the one that the loader finds.
+call libscl.so.1: the file that SCL_LIBRARY names, or the one beside this file, or the one that the loader finds. The built-in
+catalogue is read at the first call that asks it, and once a process; a Catalogue is one of your own over it.
 
     >>> scl.ask(b"gcc", [b"-c", b"a.c"]).command
     [b'-x', b'c', b'-c', b'-o', b'a.o', b'-fdiagnostics-color=always', b'a.c']
@@ -10,6 +11,7 @@ not know are passed over; where they may say that nothing is kept, is_cacheable 
 from __future__ import annotations
 
 import ctypes as c
+import functools
 import os
 from dataclasses import dataclass, field as _member
 from typing import Any, Callable, Dict, Iterable, List, Tuple
@@ -152,10 +154,36 @@ def _library() -> str:
 
 _lib = c.CDLL(_library())
 _ROOM: list[Any] = [c.c_char_p, c.c_size_t, c.POINTER(c.c_char), c.c_size_t, c.POINTER(c.c_size_t)]
-for _call, _types in ((_lib.scl_run, _ROOM), (_lib.scl_describe, _ROOM), (_lib.scl_describe_with, [c.c_char_p, c.c_size_t, *_ROOM])):
+for _call, _types in ((_lib.scl_run, _ROOM), (_lib.scl_catalogue_describe, [c.c_void_p, *_ROOM]),
+                      (_lib.scl_catalogue_new, [c.c_char_p, c.c_size_t, c.c_void_p, c.POINTER(c.c_size_t)])):
     _call.argtypes, _call.restype = _types, c.c_int32
+_lib.scl_catalogue_drop.argtypes, _lib.scl_catalogue_drop.restype = [c.c_void_p], None
 if _lib.scl_version() != PROTOCOL:
     raise ImportError(f"scl.py is of protocol {PROTOCOL}, and the library of {_lib.scl_version()}")
+
+
+class _Handle(c.c_void_p):
+    """What is freed once nothing refers to it."""
+
+    def __del__(self, drop: Callable[..., None] = _lib.scl_catalogue_drop) -> None:
+        if self:
+            drop(self)
+
+
+class Catalogue:
+    """A catalogue that is read once: that of a text over the built-in one, or the built-in one alone. Threads may share it. BadCatalogue is
+    raised where a line of the text is wrong."""
+
+    def __init__(self, text: bytes = b"") -> None:
+        self._handle, wanted = _Handle(), c.c_size_t()
+        status = _lib.scl_catalogue_new(text, len(text), c.byref(self._handle), c.byref(wanted))
+        if status != OK:
+            raise BadCatalogue(wanted.value) if status == BAD_CATALOGUE else MemoryError
+
+
+@functools.lru_cache(maxsize=None)
+def _built_in() -> Catalogue:
+    return Catalogue()
 
 
 def _respond(call: Callable[..., int], request: bytes, *before: Any) -> bytes:
@@ -165,7 +193,7 @@ def _respond(call: Callable[..., int], request: bytes, *before: Any) -> bytes:
     while (status := call(*before, request, len(request), room, len(room), c.byref(wanted))) == SHORT:
         room = c.create_string_buffer(wanted.value)
     if status != OK:
-        raise {BAD: BadLine(wanted.value), NEWER: Newer(f"line {wanted.value}"), BAD_CATALOGUE: BadCatalogue(wanted.value)}.get(status) or MemoryError
+        raise {BAD: BadLine(wanted.value), NEWER: Newer(f"line {wanted.value}")}.get(status) or MemoryError
     return c.string_at(room, wanted.value)
 
 
@@ -174,10 +202,11 @@ def run(request: bytes) -> bytes:
     return _respond(_lib.scl_run, request)
 
 
-def describe(request: bytes, catalogue: bytes | None = None) -> bytes:
-    """The text of the description of the answer to a request's text, both as bytes; with the hazards of a catalogue's text, if there is
-    one."""
-    return _respond(_lib.scl_describe, request) if catalogue is None else _respond(_lib.scl_describe_with, request, catalogue, len(catalogue))
+def describe(request: bytes, catalogue: Catalogue | bytes | None = None) -> bytes:
+    """The text of the description of the answer to a request's text, both as bytes, by the built-in catalogue, or by the one that is
+    given. The text of one is read in each call."""
+    known = Catalogue(catalogue) if isinstance(catalogue, bytes) else catalogue or _built_in()
+    return _respond(_lib.scl_catalogue_describe, request, known._handle)
 
 
 def name(words: Iterable[bytes]) -> tuple[int | None, bytes | None]:
@@ -335,12 +364,12 @@ def _answer(outcome: int, of: _Rows, wishes: dict[str, Any]) -> Answer:
     return answer
 
 
-def ask(compiler: bytes, words: Iterable[bytes], *given: Any, catalogue: bytes | None = None, **named: Any) -> Answer:
+def ask(compiler: bytes, words: Iterable[bytes], *given: Any, catalogue: Catalogue | bytes | None = None, **named: Any) -> Answer:
     """The answer to the words after a program; request says what else may be given. Words, paths and names are bytes, environment
     and files pairs of bytes, and most_words limits words, and how often files are opened: 0 is 1,000,000. most_bytes limits
     bytes (docs/RULES.md, Expansion): 0 is 67,108,864. Wishes are those of scl_request: is_multiarch, wants_runs, may_dist,
-    rewrite_includes_only, cache_mode, wants_questions, wants_hazards, wants_options, wants_key and keep_shown. A catalogue is the
-    text of one in the place of the built-in one."""
+    rewrite_includes_only, cache_mode, wants_questions, wants_hazards, wants_options, wants_key and keep_shown. A catalogue is one that
+    was read, or the text of one, which is read in each call."""
     try:
         text = describe(request(compiler, words, *given, **named), catalogue)
     except BadCatalogue:

@@ -109,6 +109,7 @@ class Answer {
 
 public:
     explicit Answer(const scl_request &request) noexcept : given_(), status_(static_cast<Status>(scl_ask_new(&request, &given_))) {}
+    explicit Answer(Status status) noexcept : given_(), status_(status) { given_.answer = scl_no_answer(); }
     Answer(Answer &&other) noexcept : given_(other.given_), status_(other.status_) { other.given_.block = nullptr; }
     Answer(const Answer &) = delete;
     Answer &operator=(const Answer &) = delete;
@@ -148,12 +149,41 @@ public:
     }
 };
 
+// A catalogue that is read once: that of a text over the built-in one, or the built-in one alone. It must live while a request asks it, and
+// may be asked by any number of threads at once. If it is none, status() says why, and so do the answers to requests that are to ask it.
+class Catalogue {
+    scl_catalogue *handle_;
+    std::size_t wrong_line_;
+    Status status_;
+
+public:
+    explicit Catalogue(std::string_view text = {}) noexcept
+        : handle_(nullptr), wrong_line_(0), status_(static_cast<Status>(scl_catalogue_new(bytes(text).at, text.size(), &handle_, &wrong_line_))) {}
+    Catalogue(Catalogue &&other) noexcept : handle_(other.handle_), wrong_line_(other.wrong_line_), status_(other.status_) { other.handle_ = nullptr; }
+    Catalogue(const Catalogue &) = delete;
+    Catalogue &operator=(const Catalogue &) = delete;
+    Catalogue &operator=(Catalogue &&other) noexcept {
+        std::swap(handle_, other.handle_);
+        std::swap(wrong_line_, other.wrong_line_);
+        std::swap(status_, other.status_);
+        return *this;
+    }
+    ~Catalogue() { scl_catalogue_free(handle_); }
+
+    explicit operator bool() const noexcept { return handle_ != nullptr; }
+    Status status() const noexcept { return status_; }
+    // The number of the text's first wrong line, from 1; or 0.
+    std::size_t wrong_line() const noexcept { return wrong_line_; }
+    const scl_catalogue *raw() const noexcept { return handle_; }
+};
+
 // A request: its members `wants_..` and the others of scl_request are set in raw().
 class Request {
     std::vector<scl_bytes> words_, directories_, existing_, settings_, bases_;
     std::vector<scl_pair> environment_, files_;
     scl_request raw_;
     scl_bytes compiler_;
+    Status catalogue_ = Status::ok; // why there is none
 
 public:
     explicit Request(std::string_view compiler, std::initializer_list<std::string_view> words = {})
@@ -164,6 +194,11 @@ public:
     scl_request &raw() noexcept { return raw_; }
     void set_directory(std::string_view path) noexcept { raw_.directory = bytes(path); }
     void set_catalogue(std::string_view text) noexcept { raw_.catalogue = bytes(text); }
+    void set_catalogue(const Catalogue &it) noexcept {
+        raw_.handle = it.raw();
+        catalogue_ = it.status();
+    }
+    void set_catalogue(Catalogue &&) = delete;
     void add_word(std::string_view word) { words_.push_back(bytes(word)); }
     void add_variable(std::string_view name, std::string_view value) { environment_.push_back({bytes(name), bytes(value)}); }
     void add_file(std::string_view path, std::string_view text) { files_.push_back({bytes(path), bytes(text)}); }
@@ -173,6 +208,7 @@ public:
     void add_base(std::string_view path) { bases_.push_back(bytes(path)); }
 
     [[nodiscard]] Answer ask() const noexcept {
+        if (catalogue_ != Status::ok) return Answer(catalogue_);
         scl_request request = raw_;
         request.compiler = compiler_;
         request.words = scl_words_of(words_.data(), words_.size());

@@ -18,6 +18,7 @@ import (
 	"fmt"
 	"strconv"
 	"strings"
+	"sync"
 	"unsafe"
 )
 
@@ -44,7 +45,7 @@ type Request struct {
 	Existing    []string // paths at which there is something
 	Multiarch   bool     // several architectures are allowed
 	Settings    []string // lines `setting` of docs/PROTOCOL.md, without that word, as `bound 10`
-	Catalogue   string   // the text of a catalogue of hazards; empty: the built-in one
+	Catalogue   string   // the text of a catalogue over the built-in one, which is read in each call; empty: the built-in one alone
 	Bases       []string // directories that differ from checkout to checkout: paths of the key are written by them
 }
 
@@ -137,8 +138,28 @@ func bytesOf(text string) (*C.uint8_t, C.size_t) {
 	return (*C.uint8_t)(unsafe.Pointer(&bytes[0])), C.size_t(len(text))
 }
 
+// builtIn is the built-in catalogue, which is read once a process.
+var (
+	builtIn     *C.scl_catalogue
+	builtInLock sync.Mutex
+)
+
+func readBuiltIn() (*C.scl_catalogue, error) {
+	builtInLock.Lock()
+	defer builtInLock.Unlock()
+	wanted := C.size_t(0)
+	if builtIn == nil && C.scl_catalogue_new(nil, 0, &builtIn, &wanted) != C.SCL_OK {
+		return nil, ErrNoMemory
+	}
+	return builtIn, nil
+}
+
 // respond gives the text of the description of the answer to a request's text.
 func respond(catalogue, request string) (string, error) {
+	known, err := readBuiltIn()
+	if err != nil {
+		return "", err
+	}
 	named, namedLen := bytesOf(catalogue)
 	asked, askedLen := bytesOf(request)
 	room, wanted := make([]byte, 4096+8*len(request)), C.size_t(0)
@@ -146,7 +167,7 @@ func respond(catalogue, request string) (string, error) {
 		var status C.int32_t
 		to, toLen := (*C.uint8_t)(unsafe.Pointer(&room[0])), C.size_t(len(room))
 		if catalogue == "" {
-			status = C.scl_describe(asked, askedLen, to, toLen, &wanted)
+			status = C.scl_catalogue_describe(known, asked, askedLen, to, toLen, &wanted)
 		} else {
 			status = C.scl_describe_with(named, namedLen, asked, askedLen, to, toLen, &wanted)
 		}

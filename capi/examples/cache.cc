@@ -487,7 +487,9 @@ static Bytes served_name(const Bytes &compiler) {
 // Asks until the answer wants nothing that is there.
 static scl::Answer described(const Bytes &compiler, char **words) {
     std::list<Bytes> texts = {here.string(), served_name(compiler)};  // the request has views of them
+    const scl::Catalogue known;  // read once, for all rounds
     scl::Request request(texts.back());
+    request.set_catalogue(known);
     request.set_directory(texts.front());
     request.raw().wants_questions = request.raw().wants_key = true;
     for (; *words; words++) request.add_word(*words);

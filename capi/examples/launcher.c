@@ -108,6 +108,11 @@ int main(int argc, char **argv) {
     request.directories.at = directories;
     request.existing.at = existing;
     request.wants_questions = request.wants_hazards = true;
+    /* (the rounds share a catalogue that is read once; where memory lacks for it, each reads its own) */
+    scl_catalogue *handle = 0;
+    size_t line;
+    scl_catalogue_new(SCL_NOTHING, 0, &handle, &line);
+    request.handle = handle;
     scl_given given;
     int32_t status;
     while ((status = scl_ask_new(&request, &given)) == SCL_OK && look(&given.answer.questions, &request)) scl_free(&given);

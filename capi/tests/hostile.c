@@ -97,6 +97,9 @@ int main(int argc, char **argv) {
     unsigned long count = argc > 1 ? strtoul(argv[1], 0, 10) : 100000, statuses[2][8] = {{0}};
     state = (argc > 2 ? strtoull(argv[2], 0, 10) : 1) * 0x9E3779B97F4A7C15u + 1;
     static uint8_t text[1 << 19], room[1 << 16], catalogue[1 << 10];
+    scl_catalogue *handle;
+    size_t line;
+    if (scl_catalogue_new(NULL, 0, &handle, &line) != SCL_OK) return 1;
     for (unsigned long i = 0; i < count; i++) {
         scl_bytes words[16];
         scl_pair files[3], variables[2];
@@ -122,6 +125,8 @@ int main(int argc, char **argv) {
         request.rewrite_includes_only = below(2);
         request.wants_questions = below(2);
         request.wants_hazards = below(2);
+        /* (most by the handle, since without one a catalogue is read in each call) */
+        request.handle = below(16) ? handle : NULL;
         scl_given given;
         int32_t status = scl_ask_new(&request, &given);
         if (status < 0 || (status > SCL_TOO_MANY_WORDS && status != SCL_NEWER) || status == SCL_SHORT || status == SCL_NO_MEMORY || (status == SCL_OK && !is_sound(&given.answer))) {
@@ -130,15 +135,16 @@ int main(int argc, char **argv) {
         }
         if (status == SCL_OK) scl_free(&given);
         statuses[0][status]++;
-        size_t wanted, size = request_text(&request, text), len_of_catalogue = catalogue_text(catalogue), room_len = below(4) ? sizeof room : below(256), which = below(3);
-        if (which < 2) status = (which ? scl_run : scl_describe)(text, size, room, room_len, &wanted);
-        else status = scl_describe_with(catalogue, len_of_catalogue, text, size, room, room_len, &wanted);
-        if (status < 0 || (status > SCL_BAD && (status != SCL_BAD_CATALOGUE || which < 2))) {
+        size_t wanted, size = request_text(&request, text), len_of_catalogue = catalogue_text(catalogue), room_len = below(4) ? sizeof room : below(256), which = below(32);
+        if (which > 1) status = which % 2 ? scl_run(text, size, room, room_len, &wanted) : scl_catalogue_describe(handle, text, size, room, room_len, &wanted);
+        else status = which ? scl_describe(text, size, room, room_len, &wanted) : scl_describe_with(catalogue, len_of_catalogue, text, size, room, room_len, &wanted);
+        if (status < 0 || (status > SCL_BAD && (status != SCL_BAD_CATALOGUE || which))) {
             printf("hostile: the text of request %lu is answered with status %d\n", i, (int)status);
             return 1;
         }
         statuses[1][status]++;
     }
+    scl_catalogue_free(handle);
     printf("%lu hostile requests: scl_ask answered %lu, knew no compiler for %lu, met too many words in %lu; texts were given %lu times, too long for the room %lu times, had a bad line %lu times, and a wrong catalogue %lu times\n", count,
            statuses[0][SCL_OK], statuses[0][SCL_BAD], statuses[0][SCL_TOO_MANY_WORDS], statuses[1][SCL_OK], statuses[1][SCL_SHORT], statuses[1][SCL_BAD], statuses[1][SCL_BAD_CATALOGUE]);
     return 0;

@@ -34,5 +34,21 @@ int main() {
     moved = scl::Request("rustc").ask();
     assert(!moved && moved.status() == scl::Status::no_such_compiler && !moved.is_cacheable());
     assert(moved.command().empty() && moved.hazards().empty() && moved.input().empty() && !moved.key_size());
+
+    scl::Catalogue known, own("hazard of-ones-own object\n  says It is one's own.\n  gcc: input a.c\n");
+    for (const scl::Catalogue *it : {&known, &own}) {
+        scl::Request request("gcc", {"-c", "a.c"});
+        request.set_catalogue(*it);
+        request.raw().wants_hazards = true;
+        const scl::Answer told = request.ask();
+        assert(told && told.hazards().size() == (it == &own ? 1 : 0));
+    }
+    scl::Catalogue taken = std::move(own);
+    assert(taken && !own && !taken.wrong_line());
+    taken = scl::Catalogue("# one\n?\n");
+    assert(!taken && taken.status() == scl::Status::bad_catalogue && taken.wrong_line() == 2);
+    based.set_catalogue(taken);
+    const scl::Answer none = based.ask();
+    assert(!none && none.status() == scl::Status::bad_catalogue && !none.is_cacheable() && none.command().empty());
     std::puts("the classes of scl.hpp give their memory back");
 }

@@ -176,8 +176,14 @@ def errors():
     raises(ValueError, scl.depfile, b"\xff", b"", words)
     if raises(scl.BadCatalogue, scl.ask, b"gcc", [b"-c", b"a.c"], catalogue=b"# one\n\nwhat is this\n").number != 3:
         sys.exit("random_requests: a catalogue's wrong line has another number")
-    if scl.ask(b"gcc", [b"-c", b"a.c", b"-MD", b"-MT", b"x", b"-MT", b"y"], catalogue=b"# none\n", wants_hazards=True).hazards:
-        sys.exit("random_requests: an empty catalogue knows hazards")
+    two_targets = [b"-c", b"a.c", b"-MD", b"-MT", b"x", b"-MT", b"y"]
+    of_built_in = scl.ask(b"gcc", two_targets, wants_hazards=True).hazards
+    own = scl.Catalogue(b"hazard of-ones-own object\n  says It is one's own.\n  gcc: input a.c\n")
+    for catalogue, wanted in ((b"# none\n", of_built_in), (scl.Catalogue(), of_built_in), (own, ["of-ones-own", *of_built_in]), (own, ["of-ones-own", *of_built_in])):
+        if not of_built_in or scl.ask(b"gcc", two_targets, catalogue=catalogue, wants_hazards=True).hazards != wanted:
+            sys.exit("random_requests: a catalogue over the built-in one knows other hazards")
+    if raises(scl.BadCatalogue, scl.Catalogue, b"?").number != 1:
+        sys.exit("random_requests: a catalogue of a wrong line has another number")
     if scl.rows(b"ok\na  \\x20\\x5cb\n") != [[b"ok"], [b"a", b"", b" \\b"]]:
         sys.exit("random_requests: rows are taken apart differently")
 

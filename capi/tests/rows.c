@@ -29,7 +29,8 @@ typedef struct text {
 static text said, asked;
 static int32_t said_status;
 static size_t said_line;
-static bool is_by_catalogue;
+static bool is_by_catalogue, is_by_handle;
+static int behind_handle;
 
 uint32_t scl_version(void) { return SCL_PROTOCOL; }
 
@@ -48,6 +49,12 @@ int32_t scl_describe_with(const uint8_t *catalogue, size_t catalogue_len, const 
                           size_t *wanted) {
     if (catalogue_len != 3 || memcmp(catalogue, "# c", 3)) FAIL("the catalogue is another");
     is_by_catalogue = true;
+    return scl_describe(request, request_len, room, room_len, wanted);
+}
+
+int32_t scl_catalogue_describe(const scl_catalogue *handle, const uint8_t *request, size_t request_len, uint8_t *room, size_t room_len, size_t *wanted) {
+    if ((const void *)handle != &behind_handle) FAIL("the handle is another");
+    is_by_handle = true;
     return scl_describe(request, request_len, room, room_len, wanted);
 }
 
@@ -356,6 +363,7 @@ static const scl_request *random_request(void) {
     if (below(2)) r->bases.at = bases, r->bases.len = below(MOST + 1);
     r->keep_shown = below(2);
     if (!below(4)) r->catalogue = scl_text("# c");
+    if (!below(4)) r->handle = (const scl_catalogue *)(const void *)&behind_handle;
     return r;
 }
 
@@ -388,7 +396,8 @@ static void check_request(const scl_request *r) {
     for (size_t i = 0; i < r->bases.len; i++) add(&want, "setting base "), add_field(&want, r->bases.at[i]), add(&want, "\n");
     if (r->keep_shown) add(&want, "setting keep-shown\n");
     if (want.len != asked.len || memcmp(want.at, asked.at, want.len)) FAIL("the request is %.*s", (int)asked.len, (const char *)asked.at);
-    if (is_by_catalogue != (r->catalogue.len > 0)) FAIL("the catalogue is passed over");
+    if (is_by_handle != (r->handle != NULL)) FAIL("the handle is passed over");
+    if (is_by_catalogue != (r->catalogue.len > 0 && !r->handle)) FAIL("the catalogue is passed over, or read beside a handle");
 }
 
 /* ---- broken answers */
@@ -609,7 +618,7 @@ int main(int argc, char **argv) {
         if (kind == 1) said.len--;
         if (kind > 11) break_answer();
         bool is_valid = kind > 1 && kind < 12;
-        is_by_catalogue = false;
+        is_by_catalogue = is_by_handle = false;
         scl_given given;
         int32_t status = scl_ask_new(request, &given);
         check_request(request);

@@ -38,11 +38,12 @@ static void decide(const scl_answer *answer) {
     }
 }
 
-static int cache(const char *line, const scl_bytes *words, size_t len) {
+static int cache(const scl_catalogue *handle, const char *line, const scl_bytes *words, size_t len) {
     scl_pair files[8];
     scl_request request = scl_request_of("gcc", words, len);
     request.directory = scl_text("/w");
     request.files.at = files;
+    request.handle = handle;
     request.wants_questions = request.wants_key = true;
     scl_given given;
     printf("%s\n", line);
@@ -60,5 +61,10 @@ int main(void) {
     const scl_bytes kept[] = {scl_text("-c"), scl_text("a.c"), scl_text("@flags")};
     const scl_bytes refused[] = {scl_text("-E"), scl_text("a.c")};
     const scl_bytes twice[] = {scl_text("-c"), scl_text("a.c"), scl_text("-o"), scl_text("-")};
-    return cache("gcc -c a.c @flags", kept, 3) || cache("gcc -E a.c", refused, 2) || cache("gcc -c a.c -o -", twice, 4);
+    scl_catalogue *handle;
+    size_t line;
+    if (scl_catalogue_new(SCL_NOTHING, 0, &handle, &line) != SCL_OK) return 1;
+    const int failed = cache(handle, "gcc -c a.c @flags", kept, 3) || cache(handle, "gcc -E a.c", refused, 2) || cache(handle, "gcc -c a.c -o -", twice, 4);
+    scl_catalogue_free(handle);
+    return failed;
 }

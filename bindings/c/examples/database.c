@@ -12,7 +12,9 @@ static const char *const entries[ENTRIES][MOST] = {
 };
 
 int main(void) {
-    size_t cached = 0, hazards = 0;
+    size_t cached = 0, hazards = 0, line;
+    scl_catalogue *handle;
+    if (scl_catalogue_new(SCL_NOTHING, 0, &handle, &line) != SCL_OK) return 1;
     for (size_t i = 0; i < ENTRIES; i++) {
         scl_bytes words[MOST];
         size_t len = 0;
@@ -23,6 +25,7 @@ int main(void) {
         scl_request request = scl_request_of(entries[i][0], words, len);
         request.directory = scl_text("/w");
         request.wants_hazards = true;
+        request.handle = handle;
         scl_given given;
         if (scl_ask_new(&request, &given) != SCL_OK) return 1;
         const scl_answer *answer = &given.answer;
@@ -32,6 +35,7 @@ int main(void) {
         for (size_t n = 0; n < answer->hazards.len; n++) printf("entry %zu has a hazard: %s\n", i + 1, (const char *)answer->hazards.at[n].at);
         scl_free(&given);
     }
+    scl_catalogue_free(handle);
     printf("%d entries, %zu can be cached, %zu with a hazard\n", ENTRIES, cached, hazards);
     return 0;
 }

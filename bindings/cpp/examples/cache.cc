@@ -28,9 +28,10 @@ static void decide(const scl::Answer &answer) {
     else std::cout << "  hash " << answer.key_size() - asked - macros << " rows, look up " << asked << ", hash " << macros << " if it counts\n";
 }
 
-static bool cache(std::string_view line, std::initializer_list<std::string_view> words) {
+static bool cache(const scl::Catalogue &known, std::string_view line, std::initializer_list<std::string_view> words) {
     scl::Request request("gcc", words);
     request.set_directory("/w");
+    request.set_catalogue(known);
     request.raw().wants_questions = request.raw().wants_key = true;
     std::cout << line << '\n';
     scl::Answer answer = request.ask();
@@ -40,7 +41,8 @@ static bool cache(std::string_view line, std::initializer_list<std::string_view>
 }
 
 int main() {
-    const bool is_answered = cache("gcc -c a.c @flags", {"-c", "a.c", "@flags"}) && cache("gcc -E a.c", {"-E", "a.c"}) &&
-                             cache("gcc -c a.c -o -", {"-c", "a.c", "-o", "-"});
+    const scl::Catalogue known; // read once
+    const bool is_answered = cache(known, "gcc -c a.c @flags", {"-c", "a.c", "@flags"}) && cache(known, "gcc -E a.c", {"-E", "a.c"}) &&
+                             cache(known, "gcc -c a.c -o -", {"-c", "a.c", "-o", "-"});
     return is_answered ? 0 : 1;
 }

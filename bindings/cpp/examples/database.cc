@@ -7,11 +7,13 @@
 int main() {
     const std::vector<std::vector<std::string_view>> entries = {
         {"gcc", "-c", "a.c"}, {"gcc", "-E", "c.c"}, {"gcc", "-c", "d.c", "-MD", "-MT", "one", "-MT", "two"}};
+    const scl::Catalogue known; // read once
     std::size_t number = 0, cached = 0, with_hazard = 0;
     for (const auto &entry : entries) {
         scl::Request request(entry[0]);
         for (std::size_t at = 1; at < entry.size(); at++) request.add_word(entry[at]);
         request.set_directory("/w");
+        request.set_catalogue(known);
         request.raw().wants_hazards = true;
         const scl::Answer answer = request.ask();
         if (!answer) return 1;

@@ -1,11 +1,10 @@
 //! Describes the answer to the request on standard input (docs/RULES.md, The program).
 #![tactic(auto)]
 
-use bumpalo::Bump;
-use scl_catalogue_default::built_in_entries;
-use scl_catalogue_text::{BadLine, ReadError, read};
+use scl_catalogue_default::{built_in, over_built_in};
+use scl_catalogue_text::{BadLine, ReadError};
 use scl_cl::{Counted, Outcome, serve, serve_each};
-use scl_describe::{Catalogue, Entry, Tables};
+use scl_describe::{Catalogue, Tables};
 use scl_effects_default::plain_names;
 use scl_requests::Requests;
 use scl_shell::shown_briefly;
@@ -25,7 +24,8 @@ usage: describe [--catalogue FILE]            one request on standard input, its
        describe [--catalogue FILE] --batch    many requests, each ended by a line `end`; so is each description
        describe --help | --version
 
-Hazards and effects of options are those of the catalogue FILE (catalogue/README.md), or of the built-in one.
+Hazards and effects of options are those of the built-in catalogue. The catalogue FILE (catalogue/README.md) adds to it: an
+entry takes the place of the built-in one of its name.
 
 example: printf 'compiler gcc\\nword -c\\nword a.c\\n' | describe
 
@@ -88,9 +88,9 @@ fn tell(rt: &HostRuntime, outcome: Outcome) -> u8 {
 }
 
 /// Describes the request of standard input, by a catalogue, and gives the status.
-fn describe_by(rt: &HostRuntime, catalogue: &Catalogue<'_>, is_batch: bool) -> u8 {
+fn describe_by(rt: &HostRuntime, catalogue: &Catalogue, is_batch: bool) -> u8 {
     let tables = Tables {
-        catalogue: *catalogue,
+        catalogue,
         plain: plain_names(),
     };
     let mut reader = Counted::new(rt.stdin());
@@ -104,25 +104,21 @@ fn describe_by(rt: &HostRuntime, catalogue: &Catalogue<'_>, is_batch: bool) -> u
     tell(rt, outcome)
 }
 
-/// The catalogue of entries that are built in, which name no group.
-fn catalogue_of<'a>(entries: &'a [Entry<'static>]) -> Catalogue<'a> {
-    Catalogue {
-        groups: &[],
-        entries,
-    }
-}
-
-/// Describes by entries that are built in, and gives the status.
-fn describe_by_entries(rt: &HostRuntime, entries: &[Entry<'static>], is_batch: bool) -> u8 {
-    let catalogue = catalogue_of(entries);
-    describe_by(rt, &catalogue, is_batch)
+/// Reports that a line of the built-in catalogue is wrong, and gives the status. The gate runs the program, so none is.
+fn refuse_built_in(rt: &HostRuntime, bad: BadLine) -> u8 {
+    let _ = eprintln!(rt;
+        "describe: the built-in catalogue:{}: {}",
+        bad.line, bad.mistake
+    );
+    65
 }
 
 /// Describes by the built-in catalogue, and gives the status.
 fn describe_by_built_in(rt: &HostRuntime, is_batch: bool) -> u8 {
-    match built_in_entries(rt.alloc()) {
-        Ok(entries) => describe_by_entries(rt, &entries, is_batch),
-        Err(_) => tell(rt, Outcome::OutOfMemory),
+    match built_in(rt.alloc()) {
+        Ok(catalogue) => describe_by(rt, &catalogue, is_batch),
+        Err(ReadError::BadLine(bad)) => refuse_built_in(rt, bad),
+        Err(ReadError::Memory) => tell(rt, Outcome::OutOfMemory),
     }
 }
 
@@ -183,15 +179,15 @@ fn file_bytes(rt: &HostRuntime, path: &str) -> io::Result<Vec<u8>> {
     fs::read(rt, path)
 }
 
-/// Describes by the catalogue of a file, or reports its first wrong line, and gives the status.
+/// Describes by the catalogue of a file over the built-in one, or reports its first wrong line, and gives the status.
 fn describe_by_file(rt: &HostRuntime, path: &str, is_batch: bool) -> u8 {
     let text = match file_bytes(rt, path) {
         Ok(text) => text,
         Err(error) => return refuse_file(rt, path, &error),
     };
-    let arena = Bump::new(rt.alloc());
-    match read(rt.alloc(), &arena, &text) {
+    match over_built_in(rt.alloc(), &text) {
         Ok(catalogue) => describe_by(rt, &catalogue, is_batch),
+        Err(ReadError::BadLine(bad)) if bad.line == 0 => refuse_built_in(rt, bad),
         Err(ReadError::BadLine(bad)) => refuse_line(rt, path, &text, bad),
         Err(ReadError::Memory) => tell(rt, Outcome::OutOfMemory),
     }

@@ -2,20 +2,31 @@
 //! `scl --help`).
 #![tactic(auto)]
 
-use scl_catalogue_default::built_in_entries;
+use scl_catalogue_default::{built_in, over_built_in};
+use scl_catalogue_text::ReadError;
+use scl_describe::{Catalogue, PlainNames};
 use scl_effects_default::plain_names;
-use scl_program::{BuiltIn, answer, without_memory};
+use scl_program::{BuiltIn, answer};
+use std::alloc::Global;
 use std::process::ExitCode;
 
-fn main(rt: HostRuntime) -> ExitCode {
-    match built_in_entries(rt.alloc()) {
-        Ok(entries) => ExitCode::from(answer(
-            &rt,
-            BuiltIn {
-                entries: &entries,
-                plain: plain_names(),
-            },
-        )),
-        Err(_) => ExitCode::from(without_memory(&rt)),
+/// What is built in of what is known of compilers.
+struct Known;
+
+impl BuiltIn for Known {
+    fn catalogue(&self, alloc: Global) -> Result<Catalogue, ReadError> {
+        built_in(alloc)
     }
+
+    fn over(&self, alloc: Global, text: &[u8]) -> Result<Catalogue, ReadError> {
+        over_built_in(alloc, text)
+    }
+
+    fn plain(&self) -> PlainNames<'static> {
+        plain_names()
+    }
+}
+
+fn main(rt: HostRuntime) -> ExitCode {
+    ExitCode::from(answer(&rt, &Known))
 }

@@ -1,3 +1,4 @@
 pub mod Texts
 pub mod Described
 pub mod Catalogues
+pub mod Memory

@@ -1,12 +1,16 @@
 //! Descriptions in memory, by a catalogue.
-ghost use Rattle.std.specs.Prelude.{◌≡◌};
+ghost use Rattle.std.specs.Prelude.{◌≡◌, pos};
 ghost use Rattle.scl_catalogue.specs.Views.{catalogue_of};
 ghost use Rattle.scl_requests.specs.Requests.{AnswersBytes};
-ghost use Rattle.scl_c.specs.Catalogues.{tables_with};
-ghost use Rattle.scl_c.specs.Described.{is_setting, line_at, IsDescribed};
+ghost use Rattle.scl_catalogue_default.specs.Text.{built_in_text};
+ghost use Rattle.scl_catalogue_text.specs.Lines.{read};
+ghost use Rattle.scl_c.specs.Catalogues.{IsDescribedBy, tables_with};
+ghost use Rattle.scl_c.specs.Described.{is_setting, line_at, AsksReadAgain, IsDescribed};
 
+use crate::catalogue::unread;
 use crate::status::{BAD, NEWER};
 use crate::text::respond;
+use scl_catalogue_default::built_in;
 use scl_describe::{Catalogue, Tables};
 use scl_description::{cut_at, next_line};
 use scl_effects_default::plain_names;
@@ -43,12 +47,12 @@ fn is_setting(line: &[u8]) -> bool
 #[tactic(auto, using(crate::proofs::DescribedLemmas::given_otherwise, crate::proofs::DescribedLemmas::given_newer, crate::proofs::DescribedLemmas::given_bad))]
 pub(crate) fn describe_by(
     alloc: Global,
-    catalogue: Catalogue<'_>,
+    catalogue: &Catalogue,
     request: &[u8],
     room: &mut [u8],
     wanted: &mut usize,
 ) -> i32
-    ensures { IsDescribed (AnswersBytes (tables_with (catalogue_of catalogue.entry)) request.now) request.now room.old room.new wanted.new result }
+    ensures { IsDescribed (AnswersBytes (tables_with (catalogue_of catalogue.now)) request.now) request.now room.old room.new wanted.new result }
 {
     let tables = Tables {
         catalogue,
@@ -62,5 +66,22 @@ pub(crate) fn describe_by(
         NEWER
     } else {
         BAD
+    }
+}
+
+/// The same by the built-in catalogue.
+#[tactic(auto, using(crate::proofs::AgainLemmas::asks_again, crate::proofs::CatalogueLemmas::by_catalogue, crate::proofs::CatalogueLemmas::by_unread, crate::proofs::CatalogueLemmas::never_told))]
+pub(crate) fn describe_by_built_in(
+    alloc: Global,
+    request: &[u8],
+    room: &mut [u8],
+    wanted: &mut usize,
+) -> i32
+    ensures told { IsDescribedBy (read built_in_text) request.now room.old room.new wanted.new result }
+    ensures read_again { result ≡ pos 0 → AsksReadAgain request.now }
+{
+    match built_in(alloc) {
+        Ok(catalogue) => describe_by(alloc, &catalogue, request, room, wanted),
+        Err(error) => unread(error, wanted),
     }
 }

@@ -1,29 +1,31 @@
 //! The layer for C: a static library, whose header is `capi/scl.h`.
 #![tactic(auto)]
 
+mod catalogue;
 mod described;
+mod handle;
 mod status;
 mod text;
 
-ghost use Rattle.std.specs.Prelude.{◌≡◌, [], codes, map, pos};
-ghost use Rattle.scl_catalogue.specs.Views.{catalogue_of, entry_of};
+ghost use Rattle.std.specs.Prelude.{◌≡◌, ◌<◌, codes, pos};
 ghost use Rattle.std.specs.Fmt.{decimal};
 ghost use Rattle.scl_description.specs.Rows.{lone, row_entry};
+ghost use Rattle.scl_description.specs.Lines.{lines_of};
 ghost use Rattle.scl_describe.specs.Descriptions.{version_entry};
-ghost use Rattle.scl_requests.specs.Requests.{AnswersBytes};
+ghost use Rattle.scl_requests.specs.Requests.{is_described, kind_of};
 ghost use Rattle.scl_cl.specs.Program.{program_answer};
-ghost use Rattle.scl_c.specs.Catalogues.{IsDescribedBy, IsFirstWrongLine, tables_with};
-ghost use Rattle.scl_c.specs.Described.{AsksReadAgain, IsDescribed};
+ghost use Rattle.scl_c.specs.Catalogues.{IsDescribedBy, IsDescribedWhere, IsFirstWrongLine};
+ghost use Rattle.scl_c.specs.Described.{AsksReadAgain};
 ghost use Rattle.scl_c.specs.Texts.{IsTextGiven, HoldsReadAgain};
-ghost use Rattle.scl_catalogue_default.specs.BuiltIn.{built_in_catalogue};
+ghost use Rattle.scl_catalogue_default.specs.Over.{read_over};
+ghost use Rattle.scl_catalogue_default.specs.Text.{built_in_text};
 ghost use Rattle.scl_catalogue_text.specs.Lines.{read};
 
-use bumpalo::Bump;
-use scl_catalogue_default::built_in_entries;
-use scl_catalogue_text::{ReadError, read};
+use catalogue::{nothing, unread};
+pub use handle::{scl_catalogue_describe, scl_catalogue_drop, scl_catalogue_new};
+use scl_catalogue_default::over_built_in;
 use scl_cl::Commands;
-use scl_describe::{Catalogue, Entry};
-use status::{BAD_CATALOGUE, NO_MEMORY};
+use scl_requests::asks_description;
 use std::alloc::Global;
 
 /// The version of the protocol.
@@ -49,20 +51,12 @@ pub extern "C" fn scl_run(alloc: Global, request: &[u8], room: &mut [u8], wanted
     text::respond(alloc, &Commands, request, room, wanted)
 }
 
-/// The catalogue of entries that are built in, which name no group.
-fn catalogue_of<'a>(entries: &'a [Entry<'static>]) -> Catalogue<'a>
-    ensures { catalogue_of result ≡ record { groups = []; entries = map entry_of entries.now } }
-{
-    Catalogue {
-        groups: &[],
-        entries,
-    }
-}
-
 /// Answers the request whose text is in memory by a description of its answer, or by what its first line asks, as `describe`
-/// does (docs/PROTOCOL.md), with the hazards that the built-in catalogue knows. The statuses, `wanted` and `room` are as those of
+/// does (docs/PROTOCOL.md), by the built-in catalogue, which is read anew where a description is requested. The statuses, `wanted` and `room` are as those of
 /// `scl_run`, but that the status is 5, in place of 2, where the bad line is one of a setting.
-#[tactic(auto, using(crate::proofs::AgainLemmas::asks_again, crate::proofs::CatalogueLemmas::by_built_in, crate::proofs::CatalogueLemmas::by_nothing))]
+/// It is 6 where a line of the built-in text itself is wrong, of which `wanted` is then the number: the repository's gate reads
+/// that text, so none is.
+#[tactic(auto, using(crate::proofs::AgainLemmas::asks_again, crate::proofs::CatalogueLemmas::with_description, crate::proofs::CatalogueLemmas::without_description))]
 #[unsafe(no_mangle)]
 pub extern "C" fn scl_describe(
     alloc: Global,
@@ -70,19 +64,19 @@ pub extern "C" fn scl_describe(
     room: &mut [u8],
     wanted: &mut usize,
 ) -> i32
-    ensures told { IsDescribed (AnswersBytes (tables_with built_in_catalogue) request.now) request.now room.old room.new wanted.new result }
+    ensures told { IsDescribedWhere (is_described (kind_of (lines_of request.now))) (read built_in_text) request.now room.old room.new wanted.new result }
     ensures read_again { result ≡ pos 0 → AsksReadAgain request.now }
 {
-    let Ok(entries) = built_in_entries(alloc) else {
-        *wanted = 0;
-        return NO_MEMORY;
-    };
-    described::describe_by(alloc, catalogue_of(&entries), request, room, wanted)
+    if asks_description(request) {
+        described::describe_by_built_in(alloc, request, room, wanted)
+    } else {
+        described::describe_by(alloc, &nothing(alloc), request, room, wanted)
+    }
 }
 
-/// The same with the hazards that a catalogue knows whose text is in memory (catalogue/README.md). The status is 6 where a line
-/// of that text is wrong: `wanted` is then the number of the first one, and the request is not read.
-#[tactic(auto, using(crate::proofs::AgainLemmas::asks_again, crate::proofs::CatalogueLemmas::by_catalogue, crate::proofs::CatalogueLemmas::by_bad_line, crate::proofs::CatalogueLemmas::by_none, crate::proofs::CatalogueLemmas::never_wrong))]
+/// The same by a catalogue whose text is in memory (catalogue/README.md), over the built-in one. The status is 6 where a line of
+/// that text is wrong: `wanted` is then the number of the first one, and the request is not read.
+#[tactic(auto, using(crate::proofs::AgainLemmas::asks_again, crate::proofs::CatalogueLemmas::by_catalogue, crate::proofs::CatalogueLemmas::by_unread, crate::proofs::CatalogueLemmas::never_told, crate::proofs::CatalogueLemmas::first_wrong, crate::proofs::CatalogueLemmas::never_wrong))]
 #[unsafe(no_mangle)]
 pub extern "C" fn scl_describe_with(
     alloc: Global,
@@ -91,20 +85,12 @@ pub extern "C" fn scl_describe_with(
     room: &mut [u8],
     wanted: &mut usize,
 ) -> i32
-    ensures told { IsDescribedBy (read catalogue.now) request.now room.old room.new wanted.new result }
+    ensures told { IsDescribedBy (read_over catalogue.now) request.now room.old room.new wanted.new result }
     ensures read_again { result ≡ pos 0 → AsksReadAgain request.now }
-    ensures wrong { result ≡ pos 6 → IsFirstWrongLine catalogue.now wanted.new }
+    ensures wrong { result ≡ pos 6 → 0 < wanted.new → IsFirstWrongLine catalogue.now wanted.new }
 {
-    let arena = Bump::new(alloc);
-    match read(alloc, &arena, catalogue) {
-        Ok(catalogue) => described::describe_by(alloc, catalogue, request, room, wanted),
-        Err(ReadError::BadLine(bad)) => {
-            *wanted = bad.line;
-            BAD_CATALOGUE
-        }
-        Err(ReadError::Memory) => {
-            *wanted = 0;
-            NO_MEMORY
-        }
+    match over_built_in(alloc, catalogue) {
+        Ok(catalogue) => described::describe_by(alloc, &catalogue, request, room, wanted),
+        Err(error) => unread(error, wanted),
     }
 }

@@ -1,3 +1,2 @@
 pub mod AnyLemmas
-pub mod FilterLemmas
 pub mod KeyLemmas

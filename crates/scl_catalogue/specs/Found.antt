@@ -54,6 +54,11 @@ abbrev pub holds : List ℕ → List ℕ → Bool
 holds [] text = false
 holds (byte ∷ bytes) text = starts_with nat_eq (byte ∷ bytes) text || holds bytes text
 
+-- what stands after the first `=`
+abbrev pub behind_equals : List ℕ → List ℕ
+behind_equals [] = []
+behind_equals (byte ∷ bytes) = cond (byte == 61) bytes (behind_equals bytes)
+
 abbrev pub compared : How → List ℕ → List ℕ → Bool
 compared how.Is text word = bytes_eq text word
 compared how.Begins text word = starts_with nat_eq word text

@@ -4,3 +4,4 @@ pub mod Keyed
 pub mod Speaking
 pub mod Views
 pub mod Lookup
+pub mod Over

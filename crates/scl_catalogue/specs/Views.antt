@@ -14,7 +14,8 @@ use Rattle.scl_catalogue.specs.declared.entry.Tells.{Tells}
 use Rattle.scl_catalogue.specs.declared.entry.Tells.TheVariants as tells
 use Rattle.scl_catalogue.specs.declared.line.Line.{Line}
 use Rattle.scl_catalogue.specs.declared.lookup.Lexicon as declared
-use Rattle.scl_catalogue.specs.Lookup.{Lexicon}
+use Rattle.scl_catalogue.specs.declared.lookup.Stated.{Stated}
+use Rattle.scl_catalogue.specs.Lookup.{Lexicon, Said}
 use Rattle.scl_catalogue.specs.declared.relation.Relation.{Relation}
 use Rattle.scl_catalogue.specs.declared.relation.Relation.TheVariants as relation
 use Rattle.scl_catalogue.specs.declared.seen.Seen.{Seen}
@@ -26,10 +27,10 @@ use Rattle.scl_catalogue.specs.declared.text.Pattern.{Pattern}
 use Rattle.scl_catalogue.specs.declared.text.Text.{Text}
 
 abbrev pub pattern_of : Pattern → form.Pattern
-pattern_of p = record { how = p.how; text = p.text.now }
+pattern_of p = record { how = p.how; text = p.text.items }
 
 abbrev pub text_of : Text → form.Text
-text_of t = record { any = map pattern_of t.any.now; but = map pattern_of t.but.now }
+text_of t = record { any = map pattern_of t.any.items; but = map pattern_of t.but.items }
 
 abbrev pub demand_of : Demand → form.Demand
 demand_of (demand.Marked m) = form.Marked m
@@ -37,10 +38,10 @@ demand_of (demand.Value text) = form.Value (text_of text)
 demand_of (demand.Part text) = form.Part (text_of text)
 
 abbrev pub test_of : Test → form.Test
-test_of t = record { class = t.class; names = text_of t.names; demands = map demand_of t.demands.now }
+test_of t = record { class = t.class; names = text_of t.names; demands = map demand_of t.demands.items }
 
 abbrev pub group_of : Group → form.Group
-group_of g = record { name = g.name.now; tests = map test_of g.tests.now }
+group_of g = record { name = g.name.items; tests = map test_of g.tests.items }
 
 abbrev pub relation_of : Relation → form.Relation
 relation_of (relation.Any g) = form.Any (group_of g)
@@ -59,11 +60,11 @@ abbrev pub condition_of : Condition → form.Condition
 condition_of c = record { is_denied = c.is_denied; question = question_of c.question }
 
 abbrev pub case_of : Case → form.Case
-case_of c = record { served = c.served.now; conditions = map condition_of c.conditions.now }
+case_of c = record { served = c.served.items; conditions = map condition_of c.conditions.items }
 
 abbrev pub tells_of : Tells → form.Tells
 tells_of (tells.Hazard d) = form.Hazard d
-tells_of (tells.Effect v file) = form.Effect v file.now
+tells_of (tells.Effect v file) = form.Effect v file.items
 tells_of tells.Reason = form.Reason
 tells_of tells.Plain = form.Plain
 tells_of (tells.Key d) = form.Key d
@@ -71,13 +72,16 @@ tells_of (tells.Run d) = form.Run d
 tells_of (tells.Names n) = form.Names n
 
 abbrev pub entry_of : Entry → form.Entry
-entry_of e = record { tells = tells_of e.tells; name = e.name.now; says = e.says.now; cases = map case_of e.cases.now }
+entry_of e = record { tells = tells_of e.tells; name = e.name.items; says = e.says.items; cases = map case_of e.cases.items }
 
 abbrev pub catalogue_of : Catalogue → form.Catalogue
-catalogue_of c = record { groups = map group_of c.groups.now; entries = map entry_of c.entries.now }
+catalogue_of c = record { groups = map group_of c.groups.items; entries = map entry_of c.entries.items }
+
+abbrev pub said_of : {A : Type 0} → Stated A → Said A
+said_of s = record { says = s.says; entry = entry_of s.entry.now }
 
 abbrev pub lexicon_of : declared.Lexicon → Lexicon
-lexicon_of l = record { catalogue = catalogue_of l.catalogue; compiler = l.compiler; version = l.version }
+lexicon_of l = record { compiler = l.compiler; version = l.version; key = map said_of l.key.items; run = map said_of l.run.items; names = map said_of l.names.items }
 
 abbrev pub seen_of : Seen → OptionSeen
 seen_of o = record { standing = o.standing; name = o.name.now; kind = o.kind.now; value = o.value.now; marks = o.marks }

@@ -46,12 +46,12 @@ pub struct Served {
 }
 
 /// A case in which an entry is there: the compiler is served, and each condition holds.
-#[derive(Clone, Copy, Debug)]
-pub struct Case<'a> {
+#[derive(Debug, Drop)]
+pub struct Case {
     /// The compilers that are meant.
-    pub served: &'a [Served],
+    pub served: Vec<Served>,
     /// What must hold.
-    pub conditions: &'a [Condition<'a>],
+    pub conditions: Vec<Condition>,
 }
 
 fn is_lower(one: Version, other: Version) -> bool
@@ -93,7 +93,7 @@ pub fn serves(served: &[Served], compiler: Compiler, version: Option<Version>) -
 }
 
 /// Whether each condition holds.
-fn all_hold(conditions: &[Condition<'_>], line: &Line<'_>, keys: &LineKeys) -> bool
+fn all_hold(conditions: &[Condition], line: &Line<'_>, keys: &LineKeys) -> bool
     requires options { list_all (is_keyed keys.now.options) (map seen_of line.now.options.now) ≡ true }
     requires inner { list_all (is_keyed keys.now.inner) (map seen_of line.now.inner.now) ≡ true }
     ensures { result ≡ list_all (condition_holds (line_of line.now)) (map condition_of conditions.now) }
@@ -106,13 +106,13 @@ fn all_hold(conditions: &[Condition<'_>], line: &Line<'_>, keys: &LineKeys) -> b
     true
 }
 
-impl Case<'_> {
+impl Case {
     /// Whether the case is there in a line whose options have these numbers.
     pub(crate) fn holds(&self, line: &Line<'_>, keys: &LineKeys) -> bool
         requires options { list_all (is_keyed keys.now.options) (map seen_of line.now.options.now) ≡ true }
         requires inner { list_all (is_keyed keys.now.inner) (map seen_of line.now.inner.now) ≡ true }
         ensures { result ≡ case_holds (line_of line.now) (case_of self.now) }
     {
-        serves(self.served, line.compiler, line.version) && all_hold(self.conditions, line, keys)
+        serves(&self.served, line.compiler, line.version) && all_hold(&self.conditions, line, keys)
     }
 }

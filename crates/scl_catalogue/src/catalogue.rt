@@ -13,24 +13,24 @@ use scl_values::Mem;
 use std::alloc::Global;
 
 /// Groups of options, and the entries that speak of them.
-#[derive(Clone, Copy, Debug)]
-pub struct Catalogue<'a> {
+#[derive(Debug, Drop)]
+pub struct Catalogue {
     /// The groups that have a name.
-    pub groups: &'a [Group<'a>],
+    pub groups: Vec<Group>,
     /// The entries, in the order in which they are reported.
-    pub entries: &'a [Entry<'a>],
+    pub entries: Vec<Entry>,
 }
 
 /// The entries that are there in a line whose options have these numbers, in their order.
 fn those_there<'a>(
     alloc: Global,
-    entries: &'a [Entry<'a>],
+    entries: &'a [Entry],
     line: &Line<'_>,
     keys: &LineKeys,
-) -> Mem<Vec<&'a Entry<'a>>>
+) -> Mem<Vec<&'a Entry>>
     requires options { list_all (is_keyed keys.now.options) (map seen_of line.now.options.now) ≡ true }
     requires inner { list_all (is_keyed keys.now.inner) (map seen_of line.now.inner.now) ≡ true }
-    ensures { IfOk result (λ kept. map (λ entry. entry.now) kept.items ≡ filter (λ entry. is_there (line_of line.now) (entry_of entry)) entries.now) }
+    ensures { IfOk result (λ kept. map (λ entry. entry_of entry.now) kept.items ≡ filter (is_there (line_of line.now)) (map entry_of entries.now)) }
 {
     let mut kept = Vec::new(alloc);
     for entry in entries {
@@ -41,14 +41,13 @@ fn those_there<'a>(
     Ok(kept)
 }
 
-impl<'a> Catalogue<'a> {
+impl Catalogue {
     /// The entries that are there, in their order.
-    #[tactic(auto, using(crate::proofs::FilterLemmas::kept_entries))]
-    pub fn found(&self, alloc: Global, line: &Line<'_>) -> Mem<Vec<&'a Entry<'a>>>
+    pub fn found<'a>(&'a self, alloc: Global, line: &Line<'_>) -> Mem<Vec<&'a Entry>>
         ensures { IfOk result (λ entries. map (λ entry. entry_of entry.now) entries.items ≡ found (catalogue_of self.now) (line_of line.now)) }
     {
         let keys = LineKeys::of(line);
-        let kept = those_there(alloc, self.entries, line, &keys)?;
+        let kept = those_there(alloc, &self.entries, line, &keys)?;
         Ok(kept)
     }
 }

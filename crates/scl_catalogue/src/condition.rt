@@ -58,25 +58,25 @@ pub enum Place {
 }
 
 /// What is asked of a line.
-#[derive(Clone, Copy, Debug)]
-pub enum Question<'a> {
+#[derive(Debug, Drop)]
+pub enum Question {
     /// The line has the fact.
     Is(Fact),
     /// A word at the place passes.
-    At(Place, Text<'a>),
+    At(Place, Text),
     /// The options stand so.
-    Given(Relation<'a>),
+    Given(Relation),
     /// The inner options stand so.
-    Inner(Relation<'a>),
+    Inner(Relation),
 }
 
 /// A question, and whether the answer is to be no.
-#[derive(Clone, Copy, Debug)]
-pub struct Condition<'a> {
+#[derive(Debug, Drop)]
+pub struct Condition {
     /// Whether the answer is to be no.
     pub is_denied: bool,
     /// What is asked.
-    pub question: Question<'a>,
+    pub question: Question,
 }
 
 /// The numbers of a line's options.
@@ -100,7 +100,7 @@ impl LineKeys {
 }
 
 /// Whether one of the words passes.
-fn any_passes(words: &[Vec<u8>], text: &Text<'_>) -> bool
+fn any_passes(words: &[Vec<u8>], text: &Text) -> bool
     ensures { result ≡ list_any (passes (text_of text.now)) (words_of words.now) }
 {
     for word in words {
@@ -113,7 +113,7 @@ fn any_passes(words: &[Vec<u8>], text: &Text<'_>) -> bool
 
 impl Place {
     /// Whether a word at the place passes.
-    fn has(self, text: &Text<'_>, line: &Line<'_>) -> bool
+    fn has(self, text: &Text, line: &Line<'_>) -> bool
         ensures { result ≡ list_any (passes (text_of text.now)) (words_at self (line_of line.now)) }
     {
         match self {
@@ -131,7 +131,7 @@ impl Place {
     }
 }
 
-impl Question<'_> {
+impl Question {
     fn is_so(&self, line: &Line<'_>, keys: &LineKeys) -> bool
         requires options { list_all (is_keyed keys.now.options) (map seen_of line.now.options.now) ≡ true }
         requires inner { list_all (is_keyed keys.now.inner) (map seen_of line.now.inner.now) ≡ true }
@@ -146,7 +146,7 @@ impl Question<'_> {
     }
 }
 
-impl Condition<'_> {
+impl Condition {
     /// Whether it holds of the line, whose options have these numbers.
     pub(crate) fn holds(&self, line: &Line<'_>, keys: &LineKeys) -> bool
         requires options { list_all (is_keyed keys.now.options) (map seen_of line.now.options.now) ≡ true }

@@ -74,12 +74,12 @@ pub enum Naming {
 }
 
 /// What an entry states.
-#[derive(Clone, Copy, Debug)]
-pub enum Tells<'a> {
+#[derive(Debug, Drop)]
+pub enum Tells {
     /// The built command does something else than the given one.
     Hazard(Danger),
     /// The compiler reads, writes or asks what the name's pattern says.
-    Effect(Verb, &'a [u8]),
+    Effect(Verb, Vec<u8>),
     /// Why a line is answered as it is.
     Reason,
     /// The options of its groups read, write and ask nothing except what other entries state.
@@ -93,26 +93,26 @@ pub enum Tells<'a> {
 }
 
 /// An entry of a catalogue.
-#[derive(Clone, Copy, Debug)]
-pub struct Entry<'a> {
+#[derive(Debug, Drop)]
+pub struct Entry {
     /// What it states.
-    pub tells: Tells<'a>,
+    pub tells: Tells,
     /// Its name.
-    pub name: &'a [u8],
+    pub name: Vec<u8>,
     /// A sentence for people.
-    pub says: &'a [u8],
+    pub says: Vec<u8>,
     /// The cases in which it is there.
-    pub cases: &'a [Case<'a>],
+    pub cases: Vec<Case>,
 }
 
-impl Entry<'_> {
+impl Entry {
     /// Whether the entry is there in a line whose options have these numbers.
     pub(crate) fn is_there(&self, line: &Line<'_>, keys: &LineKeys) -> bool
         requires options { list_all (is_keyed keys.now.options) (map seen_of line.now.options.now) ≡ true }
         requires inner { list_all (is_keyed keys.now.inner) (map seen_of line.now.inner.now) ≡ true }
         ensures { result ≡ is_there (line_of line.now) (entry_of self.now) }
     {
-        for case in self.cases {
+        for case in &self.cases {
             if case.holds(line, keys) {
                 return true;
             }

@@ -82,16 +82,16 @@ impl Keys {
 }
 
 /// The number of each word that the pattern fits, where they have one.
-fn key_of(pattern: &Pattern<'_>) -> Option<usize>
+fn key_of(pattern: &Pattern) -> Option<usize>
     ensures { result ≡ key_of (pattern_of pattern.now) }
 {
     match pattern.how {
-        How::Is => Some(number(pattern.text)),
+        How::Is => Some(number(&pattern.text)),
         How::Begins => {
             if pattern.text.len() < 3 {
                 None
             } else {
-                Some(number(pattern.text))
+                Some(number(&pattern.text))
             }
         }
         How::Ends | How::Holds => None,
@@ -99,7 +99,7 @@ fn key_of(pattern: &Pattern<'_>) -> Option<usize>
 }
 
 /// Whether the pattern may fit a word that has one of these numbers.
-fn may_fit(pattern: &Pattern<'_>, numbers: &[bool; 64]) -> bool
+fn may_fit(pattern: &Pattern, numbers: &[bool; 64]) -> bool
     ensures { result ≡ may_fit numbers.now (pattern_of pattern.now) }
 {
     match key_of(pattern) {
@@ -111,10 +111,10 @@ fn may_fit(pattern: &Pattern<'_>, numbers: &[bool; 64]) -> bool
     }
 }
 
-fn may_have(text: &Text<'_>, numbers: &[bool; 64]) -> bool
+fn may_have(text: &Text, numbers: &[bool; 64]) -> bool
     ensures { result ≡ may_have numbers.now (text_of text.now) }
 {
-    for pattern in text.any {
+    for pattern in &text.any {
         if may_fit(pattern, numbers) {
             return true;
         }
@@ -123,7 +123,7 @@ fn may_have(text: &Text<'_>, numbers: &[bool; 64]) -> bool
 }
 
 #[tactic(auto, unfolding(crate::specs::Keyed::may_pass))]
-fn may_pass(test: &Test<'_>, keys: &Keys) -> bool
+fn may_pass(test: &Test, keys: &Keys) -> bool
     ensures { result ≡ may_pass keys.now (test_of test.now) }
 {
     match test.class {
@@ -135,7 +135,7 @@ fn may_pass(test: &Test<'_>, keys: &Keys) -> bool
     }
 }
 
-fn one_may_pass(tests: &[Test<'_>], keys: &Keys) -> bool
+fn one_may_pass(tests: &[Test], keys: &Keys) -> bool
     ensures { result ≡ list_any (may_pass keys.now) (map test_of tests.now) }
 {
     for test in tests {
@@ -146,7 +146,7 @@ fn one_may_pass(tests: &[Test<'_>], keys: &Keys) -> bool
     false
 }
 
-impl Group<'_> {
+impl Group {
     /// Whether an option may be in the group; where not, none of the options that have these numbers is.
     #[tactic(auto, using(crate::proofs::KeyLemmas::none_in))]
     pub(crate) fn may_have_one(&self, keys: &Keys, options: &[Seen<'_>]) -> bool
@@ -154,6 +154,6 @@ impl Group<'_> {
         ensures { result ≡ false → list_any (in_group (group_of self.now)) (map seen_of options.now) ≡ false }
     {
         let _options = options;
-        one_may_pass(self.tests, keys)
+        one_may_pass(&self.tests, keys)
     }
 }

@@ -4,10 +4,12 @@
 mod case;
 mod catalogue;
 mod condition;
+mod copy;
 mod entry;
 mod keys;
 mod line;
 mod lookup;
+mod over;
 mod relation;
 mod seen;
 mod speaking;
@@ -24,4 +26,4 @@ pub use relation::Relation;
 pub use seen::{Mark, Marks, Seen, Standing};
 pub use speaking::Level;
 pub use test::{Class, Demand, Group, Test};
-pub use text::{How, Pattern, Text, holds};
+pub use text::{How, Pattern, Text, behind_equals, holds};

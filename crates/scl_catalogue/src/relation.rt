@@ -10,21 +10,21 @@ use crate::seen::Seen;
 use crate::test::Group;
 
 /// Which options stand, and in what order.
-#[derive(Clone, Copy, Debug)]
-pub enum Relation<'a> {
+#[derive(Debug, Drop)]
+pub enum Relation {
     /// One of the group stands.
-    Any(Group<'a>),
+    Any(Group),
     /// Two of the group stand, or more.
-    Two(Group<'a>),
+    Two(Group),
     /// One of the first group stands before one of the second.
-    Before(Group<'a>, Group<'a>),
+    Before(Group, Group),
     /// One of the first group stands last, or right before one that is not of the second.
-    Unfollowed(Group<'a>, Group<'a>),
+    Unfollowed(Group, Group),
     /// The last option that is of either group is of the first.
-    Last(Group<'a>, Group<'a>),
+    Last(Group, Group),
 }
 
-fn is_any(options: &[Seen<'_>], group: &Group<'_>) -> bool
+fn is_any(options: &[Seen<'_>], group: &Group) -> bool
     ensures { result ≡ list_any (in_group (group_of group.now)) (map seen_of options.now) }
 {
     for option in options {
@@ -35,7 +35,7 @@ fn is_any(options: &[Seen<'_>], group: &Group<'_>) -> bool
     false
 }
 
-fn is_before(options: &[Seen<'_>], first: &Group<'_>, second: &Group<'_>) -> bool
+fn is_before(options: &[Seen<'_>], first: &Group, second: &Group) -> bool
     ensures { result ≡ is_before (in_group (group_of first.now)) (in_group (group_of second.now)) (map seen_of options.now) }
 {
     let mut is_behind = false;
@@ -48,7 +48,7 @@ fn is_before(options: &[Seen<'_>], first: &Group<'_>, second: &Group<'_>) -> boo
     false
 }
 
-fn is_unfollowed(options: &[Seen<'_>], first: &Group<'_>, second: &Group<'_>) -> bool
+fn is_unfollowed(options: &[Seen<'_>], first: &Group, second: &Group) -> bool
     ensures { result ≡ is_unfollowed (in_group (group_of first.now)) (in_group (group_of second.now)) (map seen_of options.now) }
 {
     let mut is_open = false;
@@ -61,7 +61,7 @@ fn is_unfollowed(options: &[Seen<'_>], first: &Group<'_>, second: &Group<'_>) ->
     is_open
 }
 
-fn is_last(options: &[Seen<'_>], first: &Group<'_>, second: &Group<'_>) -> bool
+fn is_last(options: &[Seen<'_>], first: &Group, second: &Group) -> bool
     ensures { result ≡ is_last (in_group (group_of first.now)) (in_group (group_of second.now)) (map seen_of options.now) }
 {
     let mut is_first = false;
@@ -75,9 +75,9 @@ fn is_last(options: &[Seen<'_>], first: &Group<'_>, second: &Group<'_>) -> bool
     is_first
 }
 
-impl<'a> Relation<'a> {
+impl Relation {
     /// The group of which an option must stand.
-    pub(crate) fn first(&self) -> &Group<'a>
+    pub(crate) fn first(&self) -> &Group
         ensures { group_of result.now ≡ first_group (relation_of self.now) }
     {
         match self {
@@ -94,10 +94,7 @@ impl<'a> Relation<'a> {
     {
         match self {
             Relation::Any(group) => is_any(options, group),
-            Relation::Two(group) => {
-                let second = *group;
-                is_before(options, group, &second)
-            }
+            Relation::Two(group) => is_before(options, group, group),
             Relation::Before(first, second) => is_before(options, first, second),
             Relation::Unfollowed(first, second) => is_unfollowed(options, first, second),
             Relation::Last(first, second) => is_last(options, first, second),

@@ -19,7 +19,7 @@ pub enum Level {
     Inner,
 }
 
-impl Question<'_> {
+impl Question {
     /// Whether it begins with a group that has the option.
     fn begins_with(&self, level: Level, option: &Seen<'_>) -> bool
         ensures { result ≡ begins_with (seen_of option.now) (relation_at level (question_of self.now)) }
@@ -32,7 +32,7 @@ impl Question<'_> {
     }
 }
 
-fn one_asks_for(conditions: &[Condition<'_>], level: Level, option: &Seen<'_>) -> bool
+fn one_asks_for(conditions: &[Condition], level: Level, option: &Seen<'_>) -> bool
     ensures { result ≡ list_any (asks_for level (seen_of option.now)) (map condition_of conditions.now) }
 {
     for condition in conditions {
@@ -43,7 +43,7 @@ fn one_asks_for(conditions: &[Condition<'_>], level: Level, option: &Seen<'_>) -
     false
 }
 
-impl Case<'_> {
+impl Case {
     fn speaks_of(
         &self,
         compiler: Compiler,
@@ -53,11 +53,11 @@ impl Case<'_> {
     ) -> bool
         ensures { result ≡ case_speaks_of compiler version level (seen_of option.now) (case_of self.now) }
     {
-        serves(self.served, compiler, version) && one_asks_for(self.conditions, level, option)
+        serves(&self.served, compiler, version) && one_asks_for(&self.conditions, level, option)
     }
 }
 
-impl Entry<'_> {
+impl Entry {
     /// Whether a case that serves this version of the compiler asks that an option stand, and this one is such. So also of an
     /// entry that is not there since another condition does not hold.
     #[tactic(auto, unfolding(crate::specs::Speaking::speaks_of))]
@@ -70,7 +70,7 @@ impl Entry<'_> {
     ) -> bool
         ensures { result ≡ speaks_of compiler version level (seen_of option.now) (entry_of self.now) }
     {
-        for case in self.cases {
+        for case in &self.cases {
             if case.speaks_of(compiler, version, level, option) {
                 return true;
             }

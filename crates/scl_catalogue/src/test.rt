@@ -23,34 +23,34 @@ pub enum Class {
 }
 
 /// What is asked of an option beside its name.
-#[derive(Clone, Copy, Debug)]
-pub enum Demand<'a> {
+#[derive(Debug, Drop)]
+pub enum Demand {
     /// It has the mark.
     Marked(Mark),
     /// Its value passes.
-    Value(Text<'a>),
+    Value(Text),
     /// A part of its value between commas passes.
-    Part(Text<'a>),
+    Part(Text),
 }
 
 /// The options of a class with one of the names that meet each demand.
-#[derive(Clone, Copy, Debug)]
-pub struct Test<'a> {
+#[derive(Debug, Drop)]
+pub struct Test {
     /// Which options are asked for.
     pub class: Class,
     /// Their names.
-    pub names: Text<'a>,
+    pub names: Text,
     /// What else is asked.
-    pub demands: &'a [Demand<'a>],
+    pub demands: Vec<Demand>,
 }
 
 /// The options that pass one of the tests.
-#[derive(Clone, Copy, Debug)]
-pub struct Group<'a> {
+#[derive(Debug, Drop)]
+pub struct Group {
     /// Its name; empty where the group stands in a condition.
-    pub name: &'a [u8],
+    pub name: Vec<u8>,
     /// The tests.
-    pub tests: &'a [Test<'a>],
+    pub tests: Vec<Test>,
 }
 
 impl Class {
@@ -76,7 +76,7 @@ impl Class {
 }
 
 /// Whether a part between commas passes.
-fn any_part(text: &Text<'_>, value: &[u8]) -> bool
+fn any_part(text: &Text, value: &[u8]) -> bool
     ensures { result ≡ list_any (passes (text_of text.now)) (slice_split is_comma value.now) }
 {
     value
@@ -84,7 +84,7 @@ fn any_part(text: &Text<'_>, value: &[u8]) -> bool
         .any(|part| text.passes(part))
 }
 
-impl Demand<'_> {
+impl Demand {
     fn is_met(&self, option: &Seen<'_>) -> bool
         ensures { result ≡ is_met (seen_of option.now) (demand_of self.now) }
     {
@@ -96,7 +96,7 @@ impl Demand<'_> {
     }
 }
 
-fn all_met(demands: &[Demand<'_>], option: &Seen<'_>) -> bool
+fn all_met(demands: &[Demand], option: &Seen<'_>) -> bool
     ensures { result ≡ list_all (is_met (seen_of option.now)) (map demand_of demands.now) }
 {
     for demand in demands {
@@ -107,24 +107,24 @@ fn all_met(demands: &[Demand<'_>], option: &Seen<'_>) -> bool
     true
 }
 
-impl Test<'_> {
+impl Test {
     #[tactic(auto, unfolding(crate::specs::Found::test_passes))]
     fn passes(&self, option: &Seen<'_>) -> bool
         ensures { result ≡ test_passes (test_of self.now) (seen_of option.now) }
     {
         self.class.is_of(option.standing)
             && self.names.passes(self.class.name_of(option))
-            && all_met(self.demands, option)
+            && all_met(&self.demands, option)
     }
 }
 
-impl Group<'_> {
+impl Group {
     /// Whether the option passes one of the tests.
     #[tactic(auto, unfolding(crate::specs::Found::in_group))]
     pub(crate) fn has(&self, option: &Seen<'_>) -> bool
         ensures { result ≡ in_group (group_of self.now) (seen_of option.now) }
     {
-        for test in self.tests {
+        for test in &self.tests {
             if test.passes(option) {
                 return true;
             }

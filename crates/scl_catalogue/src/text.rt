@@ -1,6 +1,6 @@
 //! Tests that words pass.
 ghost use Rattle.std.specs.Prelude.{◌≡◌, map};
-ghost use Rattle.scl_catalogue.specs.Found.{fits, holds, one_fits, passes};
+ghost use Rattle.scl_catalogue.specs.Found.{behind_equals, fits, holds, one_fits, passes};
 ghost use Rattle.scl_catalogue.specs.Views.{pattern_of, text_of};
 
 /// How a word is compared with a pattern's text.
@@ -17,21 +17,21 @@ pub enum How {
 }
 
 /// A text, and how words are compared with it.
-#[derive(Clone, Copy, Debug)]
-pub struct Pattern<'a> {
+#[derive(Debug, Drop)]
+pub struct Pattern {
     /// How a word is compared.
     pub how: How,
     /// What it is compared with.
-    pub text: &'a [u8],
+    pub text: Vec<u8>,
 }
 
 /// The words that one of the first patterns fits, and none of the others.
-#[derive(Clone, Copy, Debug)]
-pub struct Text<'a> {
+#[derive(Debug, Drop)]
+pub struct Text {
     /// One of these fits.
-    pub any: &'a [Pattern<'a>],
+    pub any: Vec<Pattern>,
     /// None of these does.
-    pub but: &'a [Pattern<'a>],
+    pub but: Vec<Pattern>,
 }
 
 /// Whether the word has the text in it; the empty word has none.
@@ -48,20 +48,32 @@ pub fn holds(word: &[u8], text: &[u8]) -> bool
     false
 }
 
-impl Pattern<'_> {
+/// What stands after the first `=`.
+pub fn behind_equals(word: &[u8]) -> &[u8]
+    ensures { result.now ≡ behind_equals word.now }
+{
+    for (at, byte) in word.iter().enumerate() {
+        if *byte == b'=' {
+            return &word[at + 1..];
+        }
+    }
+    &[]
+}
+
+impl Pattern {
     fn fits(&self, word: &[u8]) -> bool
         ensures { result ≡ fits (pattern_of self.now) word.now }
     {
         match self.how {
-            How::Is => self.text == word,
-            How::Begins => word.starts_with(self.text),
-            How::Ends => word.ends_with(self.text),
-            How::Holds => holds(word, self.text),
+            How::Is => self.text.as_slice() == word,
+            How::Begins => word.starts_with(&self.text),
+            How::Ends => word.ends_with(&self.text),
+            How::Holds => holds(word, &self.text),
         }
     }
 }
 
-fn one_fits(patterns: &[Pattern<'_>], word: &[u8]) -> bool
+fn one_fits(patterns: &[Pattern], word: &[u8]) -> bool
     ensures { result ≡ one_fits (map pattern_of patterns.now) word.now }
 {
     for pattern in patterns {
@@ -72,12 +84,12 @@ fn one_fits(patterns: &[Pattern<'_>], word: &[u8]) -> bool
     false
 }
 
-impl Text<'_> {
+impl Text {
     /// Whether the word passes.
     #[tactic(auto, unfolding(crate::specs::Found::passes))]
     pub(crate) fn passes(&self, word: &[u8]) -> bool
         ensures { result ≡ passes (text_of self.now) word.now }
     {
-        one_fits(self.any, word) && !one_fits(self.but, word)
+        one_fits(&self.any, word) && !one_fits(&self.but, word)
     }
 }

@@ -1,14 +1,2 @@
-pub mod Words
-pub mod Groups
-pub mod Part1
-pub mod Part2
-pub mod Part3
-pub mod Part4
-pub mod Part5
-pub mod Part6
-pub mod Part7
-pub mod Part8
-pub mod Part9
-pub mod Part10
-pub mod Part11
-pub mod BuiltIn
+pub mod Over
+pub mod Text

@@ -1,138 +1,84 @@
-//! The catalogue that is built in, of catalogue/hazards.txt and catalogue/effects.txt: `catalogue/build` writes its entries.
+//! The catalogue that is built in: its text, and what is read of it, alone or with a catalogue of one's own over it.
 #![tactic(auto)]
 
-macro_rules! text {
-    ($($how:ident $word:literal)* $(; $($other:ident $but:literal)*)?) => {
-        scl_catalogue::Text {
-            any: &[$(scl_catalogue::Pattern { how: scl_catalogue::How::$how, text: $word }),*],
-            but: &[$($(scl_catalogue::Pattern { how: scl_catalogue::How::$other, text: $but }),*)?],
+mod effects;
+mod hazards;
+
+ghost use Rattle.std.specs.Prelude.{◌≡◌, IfErr, IfOk};
+ghost use Rattle.scl_catalogue.specs.Views.{catalogue_of};
+ghost use Rattle.scl_catalogue_text.specs.Lines.{read};
+ghost use Rattle.scl_catalogue_text.specs.Outcome.{ReadsText};
+ghost use Rattle.scl_catalogue_default.specs.Over.{read_over, IsUnnumbered, IsWrongOver};
+ghost use Rattle.scl_catalogue_default.specs.Text.{built_in_text, effects_text, hazards_text};
+
+use crate::effects::EFFECTS;
+use crate::hazards::HAZARDS;
+use scl_catalogue::Catalogue;
+use scl_catalogue_text::{BadLine, ReadError, read};
+use scl_values::Mem;
+use std::alloc::Global;
+
+// (the tactics don't take a text of this size)
+#[tactic(none)]
+fn hazard_bytes() -> &'static [u8]
+    ensures { result.now ≡ hazards_text }
+{
+    HAZARDS.as_bytes()
+}
+
+#[tactic(none)]
+fn effect_bytes() -> &'static [u8]
+    ensures { result.now ≡ effects_text }
+{
+    EFFECTS.as_bytes()
+}
+
+/// The whole text.
+#[tactic(auto, unfolding(crate::specs::Text::built_in_text))]
+fn built_in_bytes(alloc: Global) -> Mem<Vec<u8>>
+    ensures { IfOk result (λ text. text.items ≡ built_in_text) }
+{
+    let mut text = Vec::from_slice(alloc, hazard_bytes())?;
+    text.extend_from_slice(effect_bytes())?;
+    Ok(text)
+}
+
+/// The catalogue that is built in. A line of its text that is wrong is reported by its number, as one of any text; the
+/// repository's gate runs this, so none is.
+pub fn built_in(alloc: Global) -> Result<Catalogue, ReadError>
+    ensures { ReadsText catalogue_of result (read built_in_text) }
+{
+    let text = built_in_bytes(alloc)?;
+    let catalogue = read(alloc, &text)?;
+    Ok(catalogue)
+}
+
+/// The error without the number of its line.
+fn unnumbered(error: ReadError) -> ReadError
+    ensures { IsUnnumbered error result }
+{
+    match error {
+        ReadError::BadLine(bad) => ReadError::BadLine(BadLine {
+            line: 0,
+            mistake: bad.mistake,
+        }),
+        ReadError::Memory => ReadError::Memory,
+    }
+}
+
+/// The catalogue of this text, and after it those built-in entries of whose names it has none. The first line of the text that is
+/// wrong is reported by its number, from 1 on. Only where the built-in text is wrong, the number is 0.
+#[tactic(auto, unfolding(crate::specs::Over::read_over))]
+pub fn over_built_in(alloc: Global, text: &[u8]) -> Result<Catalogue, ReadError>
+    ensures reads { ReadsText catalogue_of result (read_over text.now) }
+    ensures wrong { IfErr result (IsWrongOver text.now) }
+{
+    let own = read(alloc, text)?;
+    match built_in(alloc) {
+        Ok(base) => {
+            let both = own.over(alloc, base)?;
+            Ok(both)
         }
-    };
+        Err(error) => Err(unnumbered(error)),
+    }
 }
-
-macro_rules! demand {
-    (Marked $mark:ident) => { scl_catalogue::Demand::Marked(scl_catalogue::Mark::$mark) };
-    ($kind:ident $($text:tt)*) => { scl_catalogue::Demand::$kind(text!($($text)*)) };
-}
-
-macro_rules! test {
-    ($class:ident {$($text:tt)*} $({$($demand:tt)*})*) => {
-        scl_catalogue::Test {
-            class: scl_catalogue::Class::$class,
-            names: text!($($text)*),
-            demands: &[$(demand!($($demand)*)),*],
-        }
-    };
-}
-
-macro_rules! group {
-    ($name:literal $([$($test:tt)*])*) => {
-        scl_catalogue::Group { name: $name, tests: &[$(test!($($test)*)),*] }
-    };
-}
-
-macro_rules! used {
-    ($part:ident $name:ident) => { crate::groups::$part::$name };
-    ($([$($test:tt)*])*) => { group!(b"" $([$($test)*])*) };
-}
-
-macro_rules! question {
-    (Is $fact:ident) => { scl_catalogue::Question::Is(scl_catalogue::Fact::$fact) };
-    (At $place:ident $($text:tt)*) => {
-        scl_catalogue::Question::At(scl_catalogue::Place::$place, text!($($text)*))
-    };
-    ($options:ident $relation:ident $(($($group:tt)*))*) => {
-        scl_catalogue::Question::$options(scl_catalogue::Relation::$relation($(used!($($group)*)),*))
-    };
-}
-
-macro_rules! condition {
-    (not $($question:tt)*) => {
-        scl_catalogue::Condition { is_denied: true, question: question!($($question)*) }
-    };
-    ($($question:tt)*) => {
-        scl_catalogue::Condition { is_denied: false, question: question!($($question)*) }
-    };
-}
-
-macro_rules! version {
-    () => { None };
-    ($major:literal $minor:literal) => {
-        Some(scl_catalogue::Version { major: $major, minor: $minor })
-    };
-}
-
-macro_rules! served {
-    ($compiler:ident $(since $since:literal $since_minor:literal)? $(until $until:literal $until_minor:literal)?) => {
-        scl_catalogue::Served {
-            compiler: scl_catalogue::Compiler::$compiler,
-            since: version!($($since $since_minor)?),
-            until: version!($($until $until_minor)?),
-        }
-    };
-}
-
-macro_rules! case {
-    ($(($($served:tt)*))* : $({$($condition:tt)*})*) => {
-        scl_catalogue::Case {
-            served: &[$(served!($($served)*)),*],
-            conditions: &[$(condition!($($condition)*)),*],
-        }
-    };
-}
-
-macro_rules! entry {
-    (Hazard $danger:ident $name:literal $says:literal $([$($case:tt)*])*) => {
-        scl_catalogue::Entry {
-            tells: scl_catalogue::Tells::Hazard(scl_catalogue::Danger::$danger),
-            name: $name,
-            says: $says,
-            cases: &[$(case!($($case)*)),*],
-        }
-    };
-    (Effect $verb:ident $file:literal $name:literal $says:literal $([$($case:tt)*])*) => {
-        scl_catalogue::Entry {
-            tells: scl_catalogue::Tells::Effect(scl_catalogue::Verb::$verb, $file),
-            name: $name,
-            says: $says,
-            cases: &[$(case!($($case)*)),*],
-        }
-    };
-    (Key $doing:ident $name:literal $says:literal $([$($case:tt)*])*) => {
-        scl_catalogue::Entry {
-            tells: scl_catalogue::Tells::Key(scl_catalogue::Doing::$doing),
-            name: $name,
-            says: $says,
-            cases: &[$(case!($($case)*)),*],
-        }
-    };
-    (Run $doing:ident $name:literal $says:literal $([$($case:tt)*])*) => {
-        scl_catalogue::Entry {
-            tells: scl_catalogue::Tells::Run(scl_catalogue::Doing::$doing),
-            name: $name,
-            says: $says,
-            cases: &[$(case!($($case)*)),*],
-        }
-    };
-    (Names $naming:ident $name:literal $says:literal $([$($case:tt)*])*) => {
-        scl_catalogue::Entry {
-            tells: scl_catalogue::Tells::Names(scl_catalogue::Naming::$naming),
-            name: $name,
-            says: $says,
-            cases: &[$(case!($($case)*)),*],
-        }
-    };
-    ($tells:ident $name:literal $says:literal $([$($case:tt)*])*) => {
-        scl_catalogue::Entry {
-            tells: scl_catalogue::Tells::$tells,
-            name: $name,
-            says: $says,
-            cases: &[$(case!($($case)*)),*],
-        }
-    };
-}
-
-mod entries;
-mod groups;
-
-pub use entries::built_in_entries;

@@ -80,7 +80,7 @@ pub(crate) fn check_file(alloc: Global, file: &[u8]) -> Part<()>
 }
 
 /// Whether the value of an option is reported.
-fn has_value(tells: &Tells<'_>) -> bool
+fn has_value(tells: &Tells) -> bool
     ensures { result ≡ has_value (tells_of tells.now) }
 {
     match tells {
@@ -94,7 +94,7 @@ fn has_value(tells: &Tells<'_>) -> bool
     }
 }
 
-fn is_of_options(question: &Question<'_>) -> bool
+fn is_of_options(question: &Question) -> bool
     ensures { result ≡ is_of_options (question_of question.now) }
 {
     match question {
@@ -103,13 +103,13 @@ fn is_of_options(question: &Question<'_>) -> bool
     }
 }
 
-fn asks_for_options(condition: &Condition<'_>) -> bool
+fn asks_for_options(condition: &Condition) -> bool
     ensures { result ≡ asks_for_options (condition_of condition.now) }
 {
     !condition.is_denied && is_of_options(&condition.question)
 }
 
-fn some_ask_for_options(conditions: &[Condition<'_>]) -> bool
+fn some_ask_for_options(conditions: &[Condition]) -> bool
     ensures { result ≡ list_any asks_for_options (map condition_of conditions.now) }
 {
     for condition in conditions {
@@ -121,8 +121,8 @@ fn some_ask_for_options(conditions: &[Condition<'_>]) -> bool
 }
 
 /// Whether the case asks for options, if the value of one is reported.
-pub(crate) fn has_its_options(tells: &Tells<'_>, case: &Case<'_>) -> bool
+pub(crate) fn has_its_options(tells: &Tells, case: &Case) -> bool
     ensures { result ≡ has_its_options (tells_of tells.now) (case_of case.now) }
 {
-    !has_value(tells) || some_ask_for_options(case.conditions)
+    !has_value(tells) || some_ask_for_options(&case.conditions)
 }

@@ -8,8 +8,8 @@ use crate::cut::{cut_at, is_one_part, next_word, parts, words};
 use crate::mistake::{Mistake, Part, Stop};
 use crate::names::{compiler_named, is};
 use crate::read_condition::conditions;
-use crate::read_text::Room;
 use scl_catalogue::{Case, Compiler, Group, Served, Version};
+use std::alloc::Global;
 
 /// The number that goes on with this digit.
 fn with_digit(number: u32, byte: u8) -> Option<u32>
@@ -141,7 +141,7 @@ fn served_always(name: &[u8]) -> Part<Served>
 }
 
 #[tactic(auto, unfolding(crate::specs::Reading::served_read))]
-fn served(room: Room<'_>, bytes: &[u8]) -> Part<Served>
+fn served(alloc: Global, bytes: &[u8]) -> Part<Served>
     ensures { Reads (λ served. served) result (served_read bytes.now) }
 {
     let Some((name, others)) = next_word(bytes) else {
@@ -150,45 +150,43 @@ fn served(room: Room<'_>, bytes: &[u8]) -> Part<Served>
     if next_word(others).is_none() {
         return served_always(name);
     }
-    let words = words(room.alloc, bytes)?;
+    let words = words(alloc, bytes)?;
     served_of(&words)
 }
 
-fn each_served<'a>(room: Room<'a>, parts: &[&[u8]]) -> Part<&'a [Served]>
-    ensures { Reads (λ all. all.now) result (each served_read (map (λ part. part.now) parts.now)) }
+fn each_served(alloc: Global, parts: &[&[u8]]) -> Part<Vec<Served>>
+    ensures { Reads (λ all. all.items) result (each served_read (map (λ part. part.now) parts.now)) }
 {
-    let mut all = Vec::with_capacity(room.alloc, parts.len())?;
+    let mut all = Vec::with_capacity(alloc, parts.len())?;
     for part in parts {
-        let one = served(room, part)?;
+        let one = served(alloc, part)?;
         all.push(one)?;
     }
-    let placed = room.arena.try_alloc_slice_copy(&all)?;
-    Ok(placed)
+    Ok(all)
 }
 
 #[tactic(auto, unfolding(crate::specs::Reading::all_served))]
-fn all_served<'a>(room: Room<'a>, bytes: &[u8]) -> Part<&'a [Served]>
-    ensures { Reads (λ all. all.now) result (all_served bytes.now) }
+fn all_served(alloc: Global, bytes: &[u8]) -> Part<Vec<Served>>
+    ensures { Reads (λ all. all.items) result (all_served bytes.now) }
 {
     if is_one_part(bytes, b',') {
-        let only = served(room, bytes)?;
-        let placed = room.arena.try_alloc_slice_copy(&[only])?;
-        return Ok(placed);
+        let only = served(alloc, bytes)?;
+        return Ok(vec![in alloc; only]?);
     }
-    let parts = parts(room.alloc, bytes, b',')?;
-    each_served(room, &parts)
+    let parts = parts(alloc, bytes, b',')?;
+    each_served(alloc, &parts)
 }
 
 /// A case: its compilers, a colon and its conditions.
 #[tactic(auto, unfolding(crate::specs::Reading::case_read))]
-pub(crate) fn case<'a>(room: Room<'a>, groups: &[Group<'a>], line: &'a [u8]) -> Part<Case<'a>>
+pub(crate) fn case(alloc: Global, groups: &[Group], line: &[u8]) -> Part<Case>
     ensures { Reads case_of result (case_read (map group_of groups.now) line.now) }
 {
     let (compilers, behind) = cut_at(line, b':');
     let Some((_, rest)) = behind.split_first() else {
         return Err(Stop::Mistake(Mistake::UnknownLine));
     };
-    let served = all_served(room, compilers)?;
-    let conditions = conditions(room, groups, rest)?;
+    let served = all_served(alloc, compilers)?;
+    let conditions = conditions(alloc, groups, rest)?;
     Ok(Case { served, conditions })
 }

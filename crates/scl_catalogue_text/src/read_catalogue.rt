@@ -8,55 +8,31 @@ ghost use Rattle.scl_catalogue_text.specs.Again.{GivesBack};
 ghost use Rattle.scl_catalogue_text.specs.Lines.{added, catalogue_so_far, closed, lines_read, read, with_line, NewCase, NewEntry, NewGroup, Says};
 ghost use Rattle.scl_catalogue_text.specs.Outcome.{IsBadLine, Reads, ReadsText};
 ghost use Rattle.scl_catalogue_text.specs.Wrong.{IsWrong};
-ghost use Rattle.scl_catalogue_text.specs.SaidViews.{open_of, said_of, so_far};
+ghost use Rattle.scl_catalogue_text.specs.SaidViews.{said_of, so_far};
 
 use crate::cut::parts;
 use crate::file::has_its_options;
 use crate::mistake::{BadLine, Mistake, Part, ReadError, Stop};
 use crate::read_line::{Said, line};
-use crate::read_text::Room;
-use bumpalo::Bump;
 use scl_catalogue::{Case, Catalogue, Entry, Group, Tells};
 use scl_values::Mem;
 use std::alloc::Global;
 
-/// An entry whose cases are being read.
-#[derive(Drop)]
-struct Open<'a> {
-    tells: Tells<'a>,
-    name: &'a [u8],
-    says: &'a [u8],
-    cases: Vec<Case<'a>>,
-}
-
 /// What is read so far.
 #[derive(Drop)]
-struct Reader<'a> {
-    room: Room<'a>,
-    groups: Vec<Group<'a>>,
-    entries: Vec<Entry<'a>>,
-    open: Option<Open<'a>>,
+struct Reader {
+    alloc: Global,
+    groups: Vec<Group>,
+    entries: Vec<Entry>,
+    /// The entry whose cases are being read.
+    open: Option<Entry>,
 }
 
-impl<'a> Open<'a> {
-    fn closed(&self, room: Room<'a>) -> Mem<Entry<'a>>
-        ensures { IfOk result (λ entry. entry_of entry ≡ open_of self.now) }
-    {
-        let cases = room.arena.try_alloc_slice_copy(&self.cases)?;
-        Ok(Entry {
-            tells: self.tells,
-            name: self.name,
-            says: self.says,
-            cases,
-        })
-    }
-}
-
-fn has_name(entries: &[Entry<'_>], name: &[u8]) -> bool
+fn has_name(entries: &[Entry], name: &[u8]) -> bool
     ensures { result ≡ list_any (λ entry. bytes_eq entry.name name.now) (map entry_of entries.now) }
 {
     for entry in entries {
-        if entry.name == name {
+        if entry.name.as_slice() == name {
             return true;
         }
     }
@@ -73,36 +49,35 @@ fn has_control(line: &[u8]) -> bool
     found
 }
 
-impl<'a> Reader<'a> {
+impl Reader {
     /// Closes the entry whose cases are read, if there is one.
     fn close(&mut self) -> Mem<()>
         ensures { OnOk result (so_far self.new ≡ closed (so_far self.old)) }
     {
-        if let Some(open) = self.open.take() {
-            let entry = open.closed(self.room)?;
+        if let Some(entry) = self.open.take() {
             self.entries.push(entry)?;
         }
         Ok(())
     }
 
-    fn begin(&mut self, tells: Tells<'a>, name: &'a [u8]) -> Part<()>
-        ensures { Reads (λ _. so_far self.new) result (added (so_far self.old) (NewEntry (tells_of tells.entry) name.now)) }
+    fn begin(&mut self, tells: Tells, name: Vec<u8>) -> Part<()>
+        ensures { Reads (λ _. so_far self.new) result (added (so_far self.old) (NewEntry (tells_of tells) name.items)) }
     {
         self.close()?;
-        if has_name(&self.entries, name) {
+        if has_name(&self.entries, &name) {
             return Err(Stop::Mistake(Mistake::NameTwice));
         }
-        self.open = Some(Open {
+        self.open = Some(Entry {
             tells,
             name,
-            says: &[],
-            cases: Vec::new(self.room.alloc),
+            says: Vec::new(self.alloc),
+            cases: Vec::new(self.alloc),
         });
         Ok(())
     }
 
-    fn say(&mut self, says: &'a [u8]) -> Part<()>
-        ensures { Reads (λ _. so_far self.new) result (added (so_far self.old) (Says says.now)) }
+    fn say(&mut self, says: Vec<u8>) -> Part<()>
+        ensures { Reads (λ _. so_far self.new) result (added (so_far self.old) (Says says.items)) }
     {
         let Some(mut open) = self.open.take() else {
             return Err(Stop::Mistake(Mistake::NoEntry));
@@ -115,8 +90,8 @@ impl<'a> Reader<'a> {
         Ok(())
     }
 
-    fn add_case(&mut self, case: Case<'a>) -> Part<()>
-        ensures { Reads (λ _. so_far self.new) result (added (so_far self.old) (NewCase (case_of case.entry))) }
+    fn add_case(&mut self, case: Case) -> Part<()>
+        ensures { Reads (λ _. so_far self.new) result (added (so_far self.old) (NewCase (case_of case))) }
     {
         let Some(mut open) = self.open.take() else {
             return Err(Stop::Mistake(Mistake::NoEntry));
@@ -129,20 +104,20 @@ impl<'a> Reader<'a> {
         Ok(())
     }
 
-    fn add_group(&mut self, group: Group<'a>) -> Part<()>
-        ensures { Reads (λ _. so_far self.new) result (added (so_far self.old) (NewGroup (group_of group.entry))) }
+    fn add_group(&mut self, group: Group) -> Part<()>
+        ensures { Reads (λ _. so_far self.new) result (added (so_far self.old) (NewGroup (group_of group))) }
     {
         self.groups.push(group)?;
         Ok(())
     }
 
-    fn add(&mut self, bytes: &'a [u8]) -> Part<()>
+    fn add(&mut self, bytes: &[u8]) -> Part<()>
         ensures { Reads (λ _. so_far self.new) result (with_line (so_far self.old) bytes.now) }
     {
         if has_control(bytes) {
             return Err(Stop::Mistake(Mistake::ControlByte));
         }
-        match line(self.room, &self.groups, bytes)? {
+        match line(self.alloc, &self.groups, bytes)? {
             Said::Nothing => Ok(()),
             Said::Group(group) => self.add_group(group),
             Said::Entry(tells, name) => self.begin(tells, name),
@@ -161,7 +136,7 @@ fn bad_line(line: usize, stop: Stop) -> ReadError
     }
 }
 
-fn read_lines<'a>(reader: &mut Reader<'a>, lines: &[&'a [u8]]) -> Result<(), ReadError>
+fn read_lines(reader: &mut Reader, lines: &[&[u8]]) -> Result<(), ReadError>
     ensures { ReadsText (λ _. catalogue_so_far (so_far reader.new)) result (lines_read 1 (so_far reader.old) (map (λ line. line.now) lines.now)) }
 {
     for (index, line) in lines.iter().enumerate() {
@@ -172,37 +147,39 @@ fn read_lines<'a>(reader: &mut Reader<'a>, lines: &[&'a [u8]]) -> Result<(), Rea
     Ok(())
 }
 
-fn placed<'a>(reader: &mut Reader<'a>) -> Mem<Catalogue<'a>>
-    ensures { IfOk result (λ catalogue. catalogue_of catalogue ≡ catalogue_so_far (so_far reader.old)) }
+/// The catalogue, whose last entry does not go on.
+fn finished(mut reader: Reader) -> Mem<Catalogue>
+    ensures { IfOk result (λ catalogue. catalogue_of catalogue ≡ catalogue_so_far (so_far reader)) }
 {
     reader.close()?;
-    let groups = reader.room.arena.try_alloc_slice_copy(&reader.groups)?;
-    let entries = reader.room.arena.try_alloc_slice_copy(&reader.entries)?;
-    Ok(Catalogue { groups, entries })
+    Ok(Catalogue {
+        groups: reader.groups,
+        entries: reader.entries,
+    })
 }
 
 #[tactic(auto, unfolding(crate::specs::Lines::read))]
-fn text_read<'a>(alloc: Global, arena: &'a Bump, text: &'a [u8]) -> Result<Catalogue<'a>, ReadError>
+fn text_read(alloc: Global, text: &[u8]) -> Result<Catalogue, ReadError>
     ensures { ReadsText catalogue_of result (read text.now) }
 {
     let lines = parts(alloc, text, b'\n')?;
     let mut reader = Reader {
-        room: Room { arena, alloc },
+        alloc,
         groups: Vec::new(alloc),
         entries: Vec::new(alloc),
         open: None,
     };
     read_lines(&mut reader, &lines)?;
-    let catalogue = placed(&mut reader)?;
+    let catalogue = finished(reader)?;
     Ok(catalogue)
 }
 
-/// Reads a catalogue's text, placing what it holds in the arena. The first line that is wrong is reported by its
-/// number; a catalogue that was written is read as it was.
-pub fn read<'a>(alloc: Global, arena: &'a Bump, text: &'a [u8]) -> Result<Catalogue<'a>, ReadError>
+/// Reads a catalogue's text. The first line that is wrong is reported by its number; a catalogue that was written is
+/// read as it was.
+pub fn read(alloc: Global, text: &[u8]) -> Result<Catalogue, ReadError>
     ensures reads { ReadsText catalogue_of result (read text.now) }
     ensures gives_back { GivesBack catalogue_of result text.now }
     ensures wrong { IfErr result (IsWrong text.now) }
 {
-    text_read(alloc, arena, text)
+    text_read(alloc, text)
 }

@@ -8,8 +8,9 @@ use crate::cut::{first_word, has_word, is_one_part, parts};
 use crate::mistake::{Mistake, Part, Stop};
 use crate::names::{fact_named, is, place_named};
 use crate::read_test::group;
-use crate::read_text::{Room, text};
+use crate::read_text::text;
 use scl_catalogue::{Condition, Group, Question, Relation};
+use std::alloc::Global;
 
 /// Whether a relation has this name.
 #[tactic(auto, unfolding(crate::specs::Reading::is_relation))]
@@ -24,8 +25,8 @@ fn is_relation(name: &[u8]) -> bool
 }
 
 #[tactic(auto, unfolding(crate::specs::Reading::of_one))]
-fn of_one<'a>(name: &[u8], only: Group<'a>) -> Part<Relation<'a>>
-    ensures { Reads relation_of result (of_one name.now (group_of only.entry)) }
+fn of_one(name: &[u8], only: Group) -> Part<Relation>
+    ensures { Reads relation_of result (of_one name.now (group_of only)) }
 {
     if is(name, "any") {
         Ok(Relation::Any(only))
@@ -37,8 +38,8 @@ fn of_one<'a>(name: &[u8], only: Group<'a>) -> Part<Relation<'a>>
 }
 
 #[tactic(auto, unfolding(crate::specs::Reading::of_two))]
-fn of_two<'a>(name: &[u8], first: Group<'a>, second: Group<'a>) -> Part<Relation<'a>>
-    ensures { Reads relation_of result (of_two name.now (group_of first.entry) (group_of second.entry)) }
+fn of_two(name: &[u8], first: Group, second: Group) -> Part<Relation>
+    ensures { Reads relation_of result (of_two name.now (group_of first) (group_of second)) }
 {
     if is(name, "before") {
         Ok(Relation::Before(first, second))
@@ -52,76 +53,56 @@ fn of_two<'a>(name: &[u8], first: Group<'a>, second: Group<'a>) -> Part<Relation
 }
 
 #[tactic(auto, unfolding(crate::specs::Reading::relation_of_one))]
-fn relation_of_one<'a>(
-    room: Room<'a>,
-    groups: &[Group<'a>],
-    name: &[u8],
-    only: &'a [u8],
-) -> Part<Relation<'a>>
+fn relation_of_one(alloc: Global, groups: &[Group], name: &[u8], only: &[u8]) -> Part<Relation>
     ensures { Reads relation_of result (relation_of_one (map group_of groups.now) name.now only.now) }
 {
-    let only = group(room, groups, only)?;
+    let only = group(alloc, groups, only)?;
     of_one(name, only)
 }
 
 #[tactic(auto, unfolding(crate::specs::Reading::relation_of_two))]
-fn relation_of_two<'a>(
-    room: Room<'a>,
-    groups: &[Group<'a>],
+fn relation_of_two(
+    alloc: Global,
+    groups: &[Group],
     name: &[u8],
-    first: &'a [u8],
-    second: &'a [u8],
-) -> Part<Relation<'a>>
+    first: &[u8],
+    second: &[u8],
+) -> Part<Relation>
     ensures { Reads relation_of result (relation_of_two (map group_of groups.now) name.now first.now second.now) }
 {
-    let first = group(room, groups, first)?;
-    let second = group(room, groups, second)?;
+    let first = group(alloc, groups, first)?;
+    let second = group(alloc, groups, second)?;
     of_two(name, first, second)
 }
 
 #[tactic(auto, unfolding(crate::specs::Reading::relation_of_parts))]
-fn relation_of<'a>(
-    room: Room<'a>,
-    groups: &[Group<'a>],
-    name: &[u8],
-    parts: &[&'a [u8]],
-) -> Part<Relation<'a>>
+fn relation_of(alloc: Global, groups: &[Group], name: &[u8], parts: &[&[u8]]) -> Part<Relation>
     ensures { Reads relation_of result (relation_of_parts (map group_of groups.now) name.now (map (λ part. part.now) parts.now)) }
 {
     match parts {
-        [only] => relation_of_one(room, groups, name, only),
-        [first, second] => relation_of_two(room, groups, name, first, second),
+        [only] => relation_of_one(alloc, groups, name, only),
+        [first, second] => relation_of_two(alloc, groups, name, first, second),
         _ => Err(Stop::Mistake(Mistake::WrongNumberOfGroups)),
     }
 }
 
 /// The relation of the name, whose groups have `>` between them.
 #[tactic(auto, unfolding(crate::specs::Reading::relation_read, crate::specs::Reading::relation_of_parts))]
-fn relation<'a>(
-    room: Room<'a>,
-    groups: &[Group<'a>],
-    name: &[u8],
-    bytes: &'a [u8],
-) -> Part<Relation<'a>>
+fn relation(alloc: Global, groups: &[Group], name: &[u8], bytes: &[u8]) -> Part<Relation>
     ensures { Reads relation_of result (relation_read (map group_of groups.now) name.now bytes.now) }
 {
     if !is_relation(name) {
         return Err(Stop::Mistake(Mistake::UnknownQuestion));
     }
     if is_one_part(bytes, b'>') {
-        return relation_of_one(room, groups, name, bytes);
+        return relation_of_one(alloc, groups, name, bytes);
     }
-    let parts = parts(room.alloc, bytes, b'>')?;
-    relation_of(room, groups, name, &parts)
+    let parts = parts(alloc, bytes, b'>')?;
+    relation_of(alloc, groups, name, &parts)
 }
 
 #[tactic(auto, unfolding(crate::specs::Reading::question_by))]
-fn question<'a>(
-    room: Room<'a>,
-    groups: &[Group<'a>],
-    word: &[u8],
-    others: &'a [u8],
-) -> Part<Question<'a>>
+fn question(alloc: Global, groups: &[Group], word: &[u8], others: &[u8]) -> Part<Question>
     ensures { Reads question_of result (question_by (map group_of groups.now) word.now others.now) }
 {
     if let Some(fact) = fact_named(word) {
@@ -132,36 +113,31 @@ fn question<'a>(
         };
     }
     if let Some(place) = place_named(word) {
-        let text = text(room, others)?;
+        let text = text(alloc, others)?;
         return Ok(Question::At(place, text));
     }
     if is(word, "inner") {
         let (word, others) = first_word(others);
-        let relation = relation(room, groups, word, others)?;
+        let relation = relation(alloc, groups, word, others)?;
         return Ok(Question::Inner(relation));
     }
-    let relation = relation(room, groups, word, others)?;
+    let relation = relation(alloc, groups, word, others)?;
     Ok(Question::Given(relation))
 }
 
 #[tactic(auto, unfolding(crate::specs::Reading::condition_by))]
-fn condition_of<'a>(
-    room: Room<'a>,
-    groups: &[Group<'a>],
-    word: &[u8],
-    others: &'a [u8],
-) -> Part<Condition<'a>>
+fn condition_of(alloc: Global, groups: &[Group], word: &[u8], others: &[u8]) -> Part<Condition>
     ensures { Reads condition_of result (condition_by (map group_of groups.now) word.now others.now) }
 {
     if is(word, "not") {
         let (word, others) = first_word(others);
-        let question = question(room, groups, word, others)?;
+        let question = question(alloc, groups, word, others)?;
         return Ok(Condition {
             is_denied: true,
             question,
         });
     }
-    let question = question(room, groups, word, others)?;
+    let question = question(alloc, groups, word, others)?;
     Ok(Condition {
         is_denied: false,
         question,
@@ -169,43 +145,33 @@ fn condition_of<'a>(
 }
 
 #[tactic(auto, unfolding(crate::specs::Reading::condition_read))]
-fn condition<'a>(room: Room<'a>, groups: &[Group<'a>], bytes: &'a [u8]) -> Part<Condition<'a>>
+fn condition(alloc: Global, groups: &[Group], bytes: &[u8]) -> Part<Condition>
     ensures { Reads condition_of result (condition_read (map group_of groups.now) bytes.now) }
 {
     let (word, others) = first_word(bytes);
-    condition_of(room, groups, word, others)
+    condition_of(alloc, groups, word, others)
 }
 
-fn each_condition<'a>(
-    room: Room<'a>,
-    groups: &[Group<'a>],
-    parts: &[&'a [u8]],
-) -> Part<&'a [Condition<'a>]>
-    ensures { Reads (λ all. map condition_of all.now) result (each (condition_read (map group_of groups.now)) (map (λ part. part.now) parts.now)) }
+fn each_condition(alloc: Global, groups: &[Group], parts: &[&[u8]]) -> Part<Vec<Condition>>
+    ensures { Reads (λ all. map condition_of all.items) result (each (condition_read (map group_of groups.now)) (map (λ part. part.now) parts.now)) }
 {
-    let mut all = Vec::with_capacity(room.alloc, parts.len())?;
+    let mut all = Vec::with_capacity(alloc, parts.len())?;
     for part in parts {
-        let one = condition(room, groups, part)?;
+        let one = condition(alloc, groups, part)?;
         all.push(one)?;
     }
-    let placed = room.arena.try_alloc_slice_copy(&all)?;
-    Ok(placed)
+    Ok(all)
 }
 
 /// Conditions with `;` between them.
 #[tactic(auto, unfolding(crate::specs::Reading::conditions_read))]
-pub(crate) fn conditions<'a>(
-    room: Room<'a>,
-    groups: &[Group<'a>],
-    bytes: &'a [u8],
-) -> Part<&'a [Condition<'a>]>
-    ensures { Reads (λ all. map condition_of all.now) result (conditions_read (map group_of groups.now) bytes.now) }
+pub(crate) fn conditions(alloc: Global, groups: &[Group], bytes: &[u8]) -> Part<Vec<Condition>>
+    ensures { Reads (λ all. map condition_of all.items) result (conditions_read (map group_of groups.now) bytes.now) }
 {
     if is_one_part(bytes, b';') {
-        let only = condition(room, groups, bytes)?;
-        let placed = room.arena.try_alloc_slice_copy(&[only])?;
-        return Ok(placed);
+        let only = condition(alloc, groups, bytes)?;
+        return Ok(vec![in alloc; only]?);
     }
-    let parts = parts(room.alloc, bytes, b';')?;
-    each_condition(room, groups, &parts)
+    let parts = parts(alloc, bytes, b';')?;
+    each_condition(alloc, groups, &parts)
 }

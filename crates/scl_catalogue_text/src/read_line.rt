@@ -1,7 +1,7 @@
 //! Reads a line of a catalogue.
-ghost use Rattle.std.specs.Prelude.{◌≡◌, map};
+ghost use Rattle.std.specs.Prelude.{◌≡◌, map, Ok};
 ghost use Rattle.scl_catalogue.specs.Views.{group_of, tells_of};
-ghost use Rattle.scl_catalogue_text.specs.Lines.{effect_read, group_line_by, group_line_read, hazard_read, is_comment, key_read, line_by, line_read, name_read, naming_read, run_read, without_first, word_line_by};
+ghost use Rattle.scl_catalogue_text.specs.Lines.{effect_read, group_line_by, group_line_read, hazard_read, is_comment, key_read, line_by, line_read, name_read, naming_read, run_read, without_first, word_line_by, NewEntry};
 ghost use Rattle.scl_catalogue_text.specs.Outcome.{Reads};
 ghost use Rattle.scl_catalogue_text.specs.SaidViews.{said_of};
 
@@ -11,33 +11,42 @@ use crate::mistake::{Mistake, Part, Stop};
 use crate::names::{danger_named, doing_named, is, naming_named, verb_named};
 use crate::read_case::case;
 use crate::read_test::{group_named, tests};
-use crate::read_text::Room;
 use scl_catalogue::{Case, Group, Tells};
+use std::alloc::Global;
 
 /// What a line says.
-pub(crate) enum Said<'a> {
+#[derive(Drop)]
+pub(crate) enum Said {
     Nothing,
-    Group(Group<'a>),
-    Entry(Tells<'a>, &'a [u8]),
-    Says(&'a [u8]),
-    Case(Case<'a>),
+    Group(Group),
+    Entry(Tells, Vec<u8>),
+    Says(Vec<u8>),
+    Case(Case),
+}
+
+/// The entry of this name.
+fn entry(alloc: Global, tells: Tells, name: &[u8]) -> Part<Said>
+    ensures { Reads said_of result (Ok (NewEntry (tells_of tells) name.now)) }
+{
+    let name = Vec::from_slice(alloc, name)?;
+    Ok(Said::Entry(tells, name))
 }
 
 #[tactic(auto, unfolding(crate::specs::Lines::hazard_read))]
-fn hazard<'a>(words: &[&'a [u8]]) -> Part<Said<'a>>
+fn hazard(alloc: Global, words: &[&[u8]]) -> Part<Said>
     ensures { Reads said_of result (hazard_read (map (λ word. word.now) words.now)) }
 {
     let [name, danger] = words else {
         return Err(Stop::Mistake(Mistake::WrongEntry));
     };
     match danger_named(danger) {
-        Some(danger) => Ok(Said::Entry(Tells::Hazard(danger), name)),
+        Some(danger) => entry(alloc, Tells::Hazard(danger), name),
         None => Err(Stop::Mistake(Mistake::UnknownDanger)),
     }
 }
 
 #[tactic(auto, unfolding(crate::specs::Lines::effect_read))]
-fn effect<'a>(room: Room<'a>, words: &[&'a [u8]]) -> Part<Said<'a>>
+fn effect(alloc: Global, words: &[&[u8]]) -> Part<Said>
     ensures { Reads said_of result (effect_read (map (λ word. word.now) words.now)) }
 {
     let [name, verb, file] = words else {
@@ -46,68 +55,64 @@ fn effect<'a>(room: Room<'a>, words: &[&'a [u8]]) -> Part<Said<'a>>
     let Some(verb) = verb_named(verb) else {
         return Err(Stop::Mistake(Mistake::UnknownVerb));
     };
-    check_file(room.alloc, file)?;
-    Ok(Said::Entry(Tells::Effect(verb, file), name))
+    check_file(alloc, file)?;
+    let file = Vec::from_slice(alloc, file)?;
+    entry(alloc, Tells::Effect(verb, file), name)
 }
 
 #[tactic(auto, unfolding(crate::specs::Lines::key_read))]
-fn key<'a>(words: &[&'a [u8]]) -> Part<Said<'a>>
+fn key(alloc: Global, words: &[&[u8]]) -> Part<Said>
     ensures { Reads said_of result (key_read (map (λ word. word.now) words.now)) }
 {
     let [name, doing] = words else {
         return Err(Stop::Mistake(Mistake::WrongEntry));
     };
     match doing_named(doing) {
-        Some(doing) => Ok(Said::Entry(Tells::Key(doing), name)),
+        Some(doing) => entry(alloc, Tells::Key(doing), name),
         None => Err(Stop::Mistake(Mistake::UnknownDoing)),
     }
 }
 
 #[tactic(auto, unfolding(crate::specs::Lines::run_read))]
-fn run<'a>(words: &[&'a [u8]]) -> Part<Said<'a>>
+fn run(alloc: Global, words: &[&[u8]]) -> Part<Said>
     ensures { Reads said_of result (run_read (map (λ word. word.now) words.now)) }
 {
     let [name, doing] = words else {
         return Err(Stop::Mistake(Mistake::WrongEntry));
     };
     match doing_named(doing) {
-        Some(doing) => Ok(Said::Entry(Tells::Run(doing), name)),
+        Some(doing) => entry(alloc, Tells::Run(doing), name),
         None => Err(Stop::Mistake(Mistake::UnknownDoing)),
     }
 }
 
 #[tactic(auto, unfolding(crate::specs::Lines::naming_read))]
-fn naming<'a>(words: &[&'a [u8]]) -> Part<Said<'a>>
+fn naming(alloc: Global, words: &[&[u8]]) -> Part<Said>
     ensures { Reads said_of result (naming_read (map (λ word. word.now) words.now)) }
 {
     let [name, naming] = words else {
         return Err(Stop::Mistake(Mistake::WrongEntry));
     };
     match naming_named(naming) {
-        Some(naming) => Ok(Said::Entry(Tells::Names(naming), name)),
+        Some(naming) => entry(alloc, Tells::Names(naming), name),
         None => Err(Stop::Mistake(Mistake::UnknownNaming)),
     }
 }
 
 /// Only a name, of an entry that states this.
 #[tactic(auto, unfolding(crate::specs::Lines::name_read))]
-fn named<'a>(tells: Tells<'a>, words: &[&'a [u8]]) -> Part<Said<'a>>
-    ensures { Reads said_of result (name_read (tells_of tells.entry) (map (λ word. word.now) words.now)) }
+fn named(alloc: Global, tells: Tells, words: &[&[u8]]) -> Part<Said>
+    ensures { Reads said_of result (name_read (tells_of tells) (map (λ word. word.now) words.now)) }
 {
     let [name] = words else {
         return Err(Stop::Mistake(Mistake::WrongEntry));
     };
-    Ok(Said::Entry(tells, name))
+    entry(alloc, tells, name)
 }
 
 /// A group of this name, whose tests follow the colon.
 #[tactic(auto, unfolding(crate::specs::Lines::group_line_by))]
-fn group_of<'a>(
-    room: Room<'a>,
-    groups: &[Group<'a>],
-    name: &'a [u8],
-    behind: &'a [u8],
-) -> Part<Said<'a>>
+fn group_of(alloc: Global, groups: &[Group], name: &[u8], behind: &[u8]) -> Part<Said>
     ensures { Reads said_of result (group_line_by (map group_of groups.now) name.now behind.now) }
 {
     if name.is_empty() {
@@ -119,12 +124,13 @@ fn group_of<'a>(
     if group_named(groups, name).is_some() {
         return Err(Stop::Mistake(Mistake::NameTwice));
     }
-    let tests = tests(room, rest)?;
+    let name = Vec::from_slice(alloc, name)?;
+    let tests = tests(alloc, rest)?;
     Ok(Said::Group(Group { name, tests }))
 }
 
 #[tactic(auto, unfolding(crate::specs::Lines::group_line_read))]
-fn group<'a>(room: Room<'a>, groups: &[Group<'a>], bytes: &'a [u8]) -> Part<Said<'a>>
+fn group(alloc: Global, groups: &[Group], bytes: &[u8]) -> Part<Said>
     ensures { Reads said_of result (group_line_read (map group_of groups.now) bytes.now) }
 {
     let (head, behind) = cut_at(bytes, b':');
@@ -132,7 +138,7 @@ fn group<'a>(room: Room<'a>, groups: &[Group<'a>], bytes: &'a [u8]) -> Part<Said
     if has_word(others) {
         return Err(Stop::Mistake(Mistake::TooManyWords));
     }
-    group_of(room, groups, name, behind)
+    group_of(alloc, groups, name, behind)
 }
 
 /// The sentence after the first blank.
@@ -147,65 +153,66 @@ fn without_first(bytes: &[u8]) -> &[u8]
 
 /// An entry that says something of words, or a case; the line begins with this word, and goes on with the others.
 #[tactic(auto, unfolding(crate::specs::Lines::word_line_by))]
-fn word_line_named<'a>(
-    room: Room<'a>,
-    groups: &[Group<'a>],
+fn word_line_named(
+    alloc: Global,
+    groups: &[Group],
     word: &[u8],
-    others: &'a [u8],
-    line: &'a [u8],
-) -> Part<Said<'a>>
+    others: &[u8],
+    line: &[u8],
+) -> Part<Said>
     ensures { Reads said_of result (word_line_by (map group_of groups.now) word.now others.now line.now) }
 {
     if is(word, "key") {
-        let words = words(room.alloc, others)?;
-        return key(&words);
+        let words = words(alloc, others)?;
+        return key(alloc, &words);
     }
     if is(word, "run") {
-        let words = words(room.alloc, others)?;
-        return run(&words);
+        let words = words(alloc, others)?;
+        return run(alloc, &words);
     }
     if is(word, "names") {
-        let words = words(room.alloc, others)?;
-        return naming(&words);
+        let words = words(alloc, others)?;
+        return naming(alloc, &words);
     }
-    let case = case(room, groups, line)?;
+    let case = case(alloc, groups, line)?;
     Ok(Said::Case(case))
 }
 
 /// A line that begins with this word, and goes on with the others.
 #[tactic(auto, unfolding(crate::specs::Lines::line_by))]
-fn line_named<'a>(
-    room: Room<'a>,
-    groups: &[Group<'a>],
+fn line_named(
+    alloc: Global,
+    groups: &[Group],
     word: &[u8],
-    others: &'a [u8],
-    line: &'a [u8],
-) -> Part<Said<'a>>
+    others: &[u8],
+    line: &[u8],
+) -> Part<Said>
     ensures { Reads said_of result (line_by (map group_of groups.now) word.now others.now line.now) }
 {
     if is(word, "says") {
-        return Ok(Said::Says(without_first(others)));
+        let says = Vec::from_slice(alloc, without_first(others))?;
+        return Ok(Said::Says(says));
     }
     if is(word, "group") {
-        return group(room, groups, others);
+        return group(alloc, groups, others);
     }
     if is(word, "hazard") {
-        let words = words(room.alloc, others)?;
-        return hazard(&words);
+        let words = words(alloc, others)?;
+        return hazard(alloc, &words);
     }
     if is(word, "effect") {
-        let words = words(room.alloc, others)?;
-        return effect(room, &words);
+        let words = words(alloc, others)?;
+        return effect(alloc, &words);
     }
     if is(word, "reason") {
-        let words = words(room.alloc, others)?;
-        return named(Tells::Reason, &words);
+        let words = words(alloc, others)?;
+        return named(alloc, Tells::Reason, &words);
     }
     if is(word, "plain") {
-        let words = words(room.alloc, others)?;
-        return named(Tells::Plain, &words);
+        let words = words(alloc, others)?;
+        return named(alloc, Tells::Plain, &words);
     }
-    word_line_named(room, groups, word, others, line)
+    word_line_named(alloc, groups, word, others, line)
 }
 
 fn is_comment(line: &[u8]) -> bool
@@ -219,12 +226,12 @@ fn is_comment(line: &[u8]) -> bool
 
 /// What a line says, below lines that name these groups.
 #[tactic(auto, unfolding(crate::specs::Lines::line_read))]
-pub(crate) fn line<'a>(room: Room<'a>, groups: &[Group<'a>], line: &'a [u8]) -> Part<Said<'a>>
+pub(crate) fn line(alloc: Global, groups: &[Group], line: &[u8]) -> Part<Said>
     ensures { Reads said_of result (line_read (map group_of groups.now) line.now) }
 {
     let (word, others) = first_word(line);
     if word.is_empty() || is_comment(line) {
         return Ok(Said::Nothing);
     }
-    line_named(room, groups, word, others, line)
+    line_named(alloc, groups, word, others, line)
 }

@@ -1,24 +1,16 @@
 //! Reads patterns.
-ghost use Rattle.std.specs.Prelude.{◌≡◌, ◌<◌, ◌++◌, ◌∷◌, ◌==◌, ◌&&◌, not, map, IfSome, Ok};
+ghost use Rattle.std.specs.Prelude.{◌≡◌, ◌<◌, ◌++◌, ◌∷◌, ◌==◌, ◌&&◌, not, map, None, IfSome, MatchOption, Ok};
 ghost use Rattle.std.specs.Option.{option_map};
 ghost use Rattle.scl_catalogue.specs.Views.{pattern_of, text_of};
 ghost use Rattle.std.specs.List.{list_any};
 ghost use Rattle.scl_catalogue_text.specs.Cutting.{words};
 ghost use Rattle.scl_catalogue_text.specs.Outcome.{after, each, Reads};
-ghost use Rattle.scl_catalogue_text.specs.Reading.{digit, escape, escapes, hex_byte, pattern_read, patterns_read, starred_parts, text_of_parts, text_read, text_with, text_without, unescaped};
+ghost use Rattle.scl_catalogue_text.specs.Reading.{digit, escape, escapes, hex_byte, pattern_as, pattern_read, patterns_read, starred_parts, text_of_parts, text_read, text_with, text_without, unescaped};
 
 use crate::cut::{is_one_part, lacks, next_word, parts};
 use crate::mistake::{Mistake, Part, Stop};
-use bumpalo::Bump;
 use scl_catalogue::{How, Pattern, Text};
 use std::alloc::Global;
-
-/// Where what is read is placed, and whose memory is taken meanwhile.
-#[derive(Clone, Copy)]
-pub(crate) struct Room<'a> {
-    pub(crate) arena: &'a Bump,
-    pub(crate) alloc: Global,
-}
 
 fn digit(byte: u8) -> Option<u8>
     ensures value { result ≡ digit byte }
@@ -78,51 +70,46 @@ fn push_each_escaped(bytes: &mut Vec<u8>, parts: &[&[u8]]) -> Part<()>
 
 /// The bytes for which a word stands: `\xHH` is a byte, `\e` nothing.
 #[tactic(auto, unfolding(crate::specs::Reading::unescaped))]
-fn unescaped<'a>(room: Room<'a>, word: &'a [u8]) -> Part<&'a [u8]>
-    ensures { Reads (λ bytes. bytes.now) result (unescaped word.now) }
+fn unescaped(alloc: Global, word: &[u8]) -> Part<Vec<u8>>
+    ensures { Reads (λ bytes. bytes.items) result (unescaped word.now) }
 {
-    let parts = parts(room.alloc, word, b'\\')?;
+    let parts = parts(alloc, word, b'\\')?;
     let Some((first, escaped)) = parts.split_first() else {
-        return Ok(&[]);
+        return Ok(Vec::new(alloc));
     };
-    if escaped.is_empty() {
-        return Ok(first);
-    }
-    let mut bytes = Vec::from_slice(room.alloc, first)?;
+    let mut bytes = Vec::with_capacity(alloc, word.len())?;
+    bytes.extend_from_slice(first)?;
     push_each_escaped(&mut bytes, escaped)?;
-    let placed = room.arena.try_alloc_slice_copy(&bytes)?;
-    Ok(placed)
+    Ok(bytes)
 }
 
-/// A pattern as it is written: a star first or last says how it is compared.
+/// How a word is compared, and with what, as it is written: a star first or last says how.
 #[tactic(auto, unfolding(crate::specs::Reading::starred_parts))]
-fn starred<'a>(parts: &[&'a [u8]]) -> Option<Pattern<'a>>
-    ensures { option_map pattern_of result ≡ starred_parts (map (λ part. part.now) parts.now) }
+fn starred<'a>(parts: &[&'a [u8]]) -> Option<(How, &'a [u8])>
+    ensures { MatchOption result (starred_parts (map (λ part. part.now) parts.now) ≡ None) (λ starred. starred_parts (map (λ part. part.now) parts.now) ≡ pattern_as starred.0 starred.1.now) }
 {
-    let (how, text) = match parts {
-        [text] => (How::Is, *text),
-        [text, behind] if behind.is_empty() => (How::Begins, *text),
-        [before, text] if before.is_empty() => (How::Ends, *text),
-        [before, text, behind] if before.is_empty() && behind.is_empty() => (How::Holds, *text),
-        _ => return None,
-    };
-    Some(Pattern { how, text })
+    match parts {
+        [text] => Some((How::Is, *text)),
+        [text, behind] if behind.is_empty() => Some((How::Begins, *text)),
+        [before, text] if before.is_empty() => Some((How::Ends, *text)),
+        [before, text, behind] if before.is_empty() && behind.is_empty() => {
+            Some((How::Holds, *text))
+        }
+        _ => None,
+    }
 }
 
 /// A pattern with stars elsewhere than at its end, or with escapes.
 #[tactic(auto, unfolding(crate::specs::Reading::pattern_read))]
-fn pattern_with_marks<'a>(room: Room<'a>, word: &'a [u8]) -> Part<Pattern<'a>>
+fn pattern_with_marks(alloc: Global, word: &[u8]) -> Part<Pattern>
     ensures { Reads pattern_of result (pattern_read word.now) }
 {
-    let parts = parts(room.alloc, word, b'*')?;
-    let Some(starred) = starred(&parts) else {
+    let parts = parts(alloc, word, b'*')?;
+    let Some((how, text)) = starred(&parts) else {
         return Err(Stop::Mistake(Mistake::WrongPattern));
     };
-    let text = unescaped(room, starred.text)?;
-    Ok(Pattern {
-        how: starred.how,
-        text,
-    })
+    let text = unescaped(alloc, text)?;
+    Ok(Pattern { how, text })
 }
 
 /// Whether neither a star nor a backslash stands there.
@@ -133,34 +120,33 @@ fn is_plain(bytes: &[u8]) -> bool
 }
 
 #[tactic(auto, using(crate::proofs::PlainLemmas::plain_is, crate::proofs::PlainLemmas::plain_begins))]
-fn pattern<'a>(room: Room<'a>, word: &'a [u8]) -> Part<Pattern<'a>>
+fn pattern(alloc: Global, word: &[u8]) -> Part<Pattern>
     ensures { Reads pattern_of result (pattern_read word.now) }
 {
     if let Some((last, text)) = word.split_last()
         && *last == b'*'
         && is_plain(text)
     {
+        let text = Vec::from_slice(alloc, text)?;
         return Ok(Pattern {
             how: How::Begins,
             text,
         });
     }
     if is_plain(word) {
-        return Ok(Pattern {
-            how: How::Is,
-            text: word,
-        });
+        let text = Vec::from_slice(alloc, word)?;
+        return Ok(Pattern { how: How::Is, text });
     }
-    pattern_with_marks(room, word)
+    pattern_with_marks(alloc, word)
 }
 
 #[tactic(auto, using(crate::proofs::EachLemmas::each_last))]
-fn push_patterns<'a>(room: Room<'a>, all: &mut Vec<Pattern<'a>>, bytes: &'a [u8]) -> Part<()>
+fn push_patterns(alloc: Global, all: &mut Vec<Pattern>, bytes: &[u8]) -> Part<()>
     ensures { Reads (λ _. map pattern_of all.new.items) result (after (each pattern_read (words bytes.now)) (λ more. Ok (map pattern_of all.old.items ++ more))) }
 {
     let mut left = bytes;
     while let Some((word, others)) = next_word(left) {
-        let one = pattern(room, word)?;
+        let one = pattern(alloc, word)?;
         all.push(one)?;
         left = others;
     }
@@ -168,67 +154,68 @@ fn push_patterns<'a>(room: Room<'a>, all: &mut Vec<Pattern<'a>>, bytes: &'a [u8]
 }
 
 /// A pattern, and those after it.
-fn with_patterns<'a>(room: Room<'a>, first: Pattern<'a>, bytes: &'a [u8]) -> Part<&'a [Pattern<'a>]>
-    ensures { Reads (λ all. map pattern_of all.now) result (after (each pattern_read (words bytes.now)) (λ more. Ok (pattern_of first.entry ∷ more))) }
+fn with_patterns(alloc: Global, first: Pattern, bytes: &[u8]) -> Part<Vec<Pattern>>
+    ensures { Reads (λ all. map pattern_of all.items) result (after (each pattern_read (words bytes.now)) (λ more. Ok (pattern_of first ∷ more))) }
 {
-    let mut all = Vec::with_capacity(room.alloc, bytes.len() / 8 + 2)?;
+    let mut all = Vec::with_capacity(alloc, bytes.len() / 8 + 2)?;
     all.push(first)?;
-    push_patterns(room, &mut all, bytes)?;
-    let placed = room.arena.try_alloc_slice_copy(&all)?;
-    Ok(placed)
+    push_patterns(alloc, &mut all, bytes)?;
+    Ok(all)
 }
 
 #[tactic(auto, unfolding(crate::specs::Reading::patterns_read))]
-fn patterns<'a>(room: Room<'a>, bytes: &'a [u8]) -> Part<&'a [Pattern<'a>]>
-    ensures { Reads (λ all. map pattern_of all.now) result (patterns_read bytes.now) }
+fn patterns(alloc: Global, bytes: &[u8]) -> Part<Vec<Pattern>>
+    ensures { Reads (λ all. map pattern_of all.items) result (patterns_read bytes.now) }
 {
     let Some((word, others)) = next_word(bytes) else {
         return Err(Stop::Mistake(Mistake::NoPattern));
     };
-    let first = pattern(room, word)?;
+    let first = pattern(alloc, word)?;
     if next_word(others).is_some() {
-        return with_patterns(room, first, others);
+        return with_patterns(alloc, first, others);
     }
-    let placed = room.arena.try_alloc_slice_copy(&[first])?;
-    Ok(placed)
+    Ok(vec![in alloc; first]?)
 }
 
 #[tactic(auto, unfolding(crate::specs::Reading::text_with))]
-fn text_with<'a>(room: Room<'a>, any: &'a [u8], but: &'a [u8]) -> Part<Text<'a>>
+fn text_with(alloc: Global, any: &[u8], but: &[u8]) -> Part<Text>
     ensures { Reads text_of result (text_with any.now but.now) }
 {
-    let any = patterns(room, any)?;
-    let but = patterns(room, but)?;
+    let any = patterns(alloc, any)?;
+    let but = patterns(alloc, but)?;
     Ok(Text { any, but })
 }
 
 #[tactic(auto, unfolding(crate::specs::Reading::text_without))]
-fn text_without<'a>(room: Room<'a>, any: &'a [u8]) -> Part<Text<'a>>
+fn text_without(alloc: Global, any: &[u8]) -> Part<Text>
     ensures { Reads text_of result (text_without any.now) }
 {
-    let any = patterns(room, any)?;
-    Ok(Text { any, but: &[] })
+    let any = patterns(alloc, any)?;
+    Ok(Text {
+        any,
+        but: Vec::new(alloc),
+    })
 }
 
 #[tactic(auto, unfolding(crate::specs::Reading::text_of_parts))]
-fn text_of<'a>(room: Room<'a>, parts: &[&'a [u8]]) -> Part<Text<'a>>
+fn text_of(alloc: Global, parts: &[&[u8]]) -> Part<Text>
     ensures { Reads text_of result (text_of_parts (map (λ part. part.now) parts.now)) }
 {
     match parts {
-        [any] => text_without(room, any),
-        [any, but] => text_with(room, any, but),
+        [any] => text_without(alloc, any),
+        [any, but] => text_with(alloc, any, but),
         _ => Err(Stop::Mistake(Mistake::ExceptTwice)),
     }
 }
 
 /// Patterns, and after a mark those that are left out.
 #[tactic(auto, unfolding(crate::specs::Reading::text_read, crate::specs::Reading::text_of_parts))]
-pub(crate) fn text<'a>(room: Room<'a>, bytes: &'a [u8]) -> Part<Text<'a>>
+pub(crate) fn text(alloc: Global, bytes: &[u8]) -> Part<Text>
     ensures { Reads text_of result (text_read bytes.now) }
 {
     if is_one_part(bytes, b'!') {
-        return text_without(room, bytes);
+        return text_without(alloc, bytes);
     }
-    let parts = parts(room.alloc, bytes, b'!')?;
-    text_of(room, &parts)
+    let parts = parts(alloc, bytes, b'!')?;
+    text_of(alloc, &parts)
 }

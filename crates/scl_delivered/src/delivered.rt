@@ -38,7 +38,7 @@ pub struct Delivery<'a, 'c> {
     /// The base directories, as `scl_base_dirs::base_dirs` gives them.
     pub dirs: &'a [Vec<u8>],
     /// What a catalogue says of the words of the compiler's command.
-    pub lexicon: Lexicon<'c>,
+    pub lexicon: &'c Lexicon<'c>,
     /// Whether macros stay where they are.
     pub keeps_macros: bool,
 }
@@ -73,8 +73,8 @@ fn leaves_macros_out(
     object: &Object<'_, '_>,
     key: &Key,
 ) -> Mem<bool>
-    requires { object_of object.now ≡ object_by (lexicon_of object.now.lexicon) compiler (parsed_of parsed.now) (key_told key.now) }
-    ensures { IfOk result (λ leaves. leaves ≡ leaves_macros_out (lexicon_of object.now.lexicon) compiler (parsed_of parsed.now) (key_told key.now)) }
+    requires { object_of object.now ≡ object_by (lexicon_of object.now.lexicon.now) compiler (parsed_of parsed.now) (key_told key.now) }
+    ensures { IfOk result (λ leaves. leaves ≡ leaves_macros_out (lexicon_of object.now.lexicon.now) compiler (parsed_of parsed.now) (key_told key.now)) }
 {
     if !texts_show_macros(compiler, parsed, &key.parts, object) {
         return Ok(false);
@@ -133,7 +133,7 @@ pub fn deliver(
     by: &Delivery<'_, '_>,
     key: Key,
 ) -> Mem<Delivered>
-    ensures { IfOk result (λ made. delivered_of made ≡ delivered (lexicon_of by.now.lexicon) compiler (parsed_of parsed.now) (words_of by.now.dirs.now) by.now.keeps_macros (key_told key)) }
+    ensures { IfOk result (λ made. delivered_of made ≡ delivered (lexicon_of by.now.lexicon.now) compiler (parsed_of parsed.now) (words_of by.now.dirs.now) by.now.keeps_macros (key_told key)) }
 {
     let object = object_by(by.lexicon, compiler, parsed, &key);
     let last = !by.keeps_macros && leaves_macros_out(alloc, compiler, parsed, &object, &key)?;

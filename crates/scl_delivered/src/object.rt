@@ -55,12 +55,12 @@ fn is_alone(parts: &[Part]) -> bool
 
 /// The object of a record with this key.
 pub(crate) fn object_by<'a, 'c>(
-    lexicon: Lexicon<'c>,
+    lexicon: &'c Lexicon<'c>,
     compiler: Compiler,
     parsed: &'a ParsedArguments,
     key: &Key,
 ) -> Object<'a, 'c>
-    ensures { object_of result ≡ object_by (lexicon_of lexicon.entry) compiler (parsed_of parsed.now) (key_told key.now) }
+    ensures { object_of result ≡ object_by (lexicon_of lexicon.now) compiler (parsed_of parsed.now) (key_told key.now) }
 {
     Object {
         is_by_gcc: is_gcc(compiler),

@@ -1,6 +1,6 @@
 -- What a catalogue says of a request's command line.
 use Rattle.std.specs.Prelude.{ℕ, Bool, List, ◌∷◌, ◌++◌, Option, None, Some}
-use Rattle.scl_catalogue.specs.Lookup.{Lexicon}
+use Rattle.scl_catalogue.specs.Lookup.{Lexicon, lexicon_in}
 use Rattle.scl_catalogue.specs.declared.case.Compiler.{Compiler as Catalogued}
 use Rattle.scl_catalogue.specs.declared.case.Compiler.TheVariants as catalogue
 use Rattle.scl_catalogue.specs.declared.case.Version.{Version}
@@ -54,7 +54,7 @@ catalogued compilers.Tasking = catalogue.Tasking
 
 -- what tables say of the words of a compiler's command, if its version has this text
 abbrev pub lexicon_by : Tables → Option (List ℕ) → Compiler → Lexicon
-lexicon_by tables version compiler = record { catalogue = tables.catalogue; compiler = catalogued compiler; version = version_told version }
+lexicon_by tables version compiler = lexicon_in tables.catalogue (catalogued compiler) (version_told version)
 
 -- what is reported of a reading in an environment of these pairs, by whether there is a precompiled header that matters
 abbrev pub told_with : Known → List (List ℕ × List ℕ) → (has_header : Bool) → Reading → Told

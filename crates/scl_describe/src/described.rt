@@ -257,8 +257,11 @@ impl<'a> Description<'a> {
         ensures { IfOk result (IsDescribed (tables_of tables.now) (settings_by settings.now) reading (given_by line.now)) }
     {
         let compiler = reading.compiler();
-        let lexicon = lexicon_of(tables, settings, compiler);
-        let driver = Driver { compiler, lexicon };
+        let lexicon = lexicon_of(alloc, tables, settings, compiler)?;
+        let driver = Driver {
+            compiler,
+            lexicon: &lexicon,
+        };
         let runs = runs_wanted(alloc, settings, &reading)?;
         let options = options_wanted(alloc, settings, &reading)?;
         let told = told_wanted(alloc, tables, settings, &reading, line)?;

@@ -113,7 +113,7 @@ fn is_told(settings: &Settings, cacheable: Cacheable) -> bool
 #[derive(Clone, Copy)]
 pub(crate) struct Driver<'a> {
     pub(crate) compiler: Compiler,
-    pub(crate) lexicon: Lexicon<'a>,
+    pub(crate) lexicon: &'a Lexicon<'a>,
 }
 
 /// What is said of the key of a compilation, of which these words run at a miss, by these effects of its compiler.
@@ -124,7 +124,7 @@ fn keeping_by(
     effects: &[Effect],
     compilation: &Compilation,
 ) -> Mem<Keeping>
-    ensures { IfOk result (λ keeping. keeping_told keeping ≡ with_effects (parsed_of compilation.now.parsed) effects.now (keeping_of (lexicon_of driver.now.lexicon) driver.now.compiler (pairs_of compilation.now.command.env_vars.items) (run_words_of words.entry) (parsed_of compilation.now.parsed))) }
+    ensures { IfOk result (λ keeping. keeping_told keeping ≡ with_effects (parsed_of compilation.now.parsed) effects.now (keeping_of (lexicon_of driver.now.lexicon.now) driver.now.compiler (pairs_of compilation.now.command.env_vars.items) (run_words_of words.entry) (parsed_of compilation.now.parsed))) }
 {
     let line = Line {
         compiler: driver.compiler,
@@ -145,7 +145,7 @@ fn delivered_by(
     parsed: &ParsedArguments,
     key: Key,
 ) -> Mem<Delivered>
-    ensures { IfOk result (λ made. delivered_of made ≡ delivered_by (lexicon_of driver.now.lexicon) (settings_by settings.now) driver.now.compiler (parsed_of parsed.now) (key_told key)) }
+    ensures { IfOk result (λ made. delivered_of made ≡ delivered_by (lexicon_of driver.now.lexicon.now) (settings_by settings.now) driver.now.compiler (parsed_of parsed.now) (key_told key)) }
 {
     let by = Delivery {
         dirs: &settings.bases,
@@ -163,7 +163,7 @@ pub(crate) fn kept_in(
     words: &[Vec<u8>],
     described: &Description<'_>,
 ) -> Mem<Kept>
-    ensures { IfOk result (λ kept. kept_told kept ≡ kept_given (lexicon_of driver.now.lexicon) (settings_by settings.now) driver.now.compiler (words_of words.now) (given described.now.told) described.now.answer) }
+    ensures { IfOk result (λ kept. kept_told kept ≡ kept_given (lexicon_of driver.now.lexicon.now) (settings_by settings.now) driver.now.compiler (words_of words.now) (given described.now.told) described.now.answer) }
 {
     let compilation = match &described.answer {
         CompilerArguments::Ok(compilation) => compilation,

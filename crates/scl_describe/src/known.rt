@@ -1,5 +1,5 @@
 //! What is known of the compiler that is run.
-ghost use Rattle.std.specs.Prelude.{◌≡◌};
+ghost use Rattle.std.specs.Prelude.{◌≡◌, IfOk};
 ghost use Rattle.std.specs.Option.{option_copied};
 ghost use Rattle.scl_catalogue.specs.Views.{lexicon_of as lexicon_told};
 ghost use Rattle.scl_hazards.specs.Hazards.{tables_of};
@@ -12,6 +12,8 @@ use scl_catalogue_text::version;
 use scl_description::cut_at;
 use scl_hazards::{Known, Tables, Version};
 use scl_reader::{Compiler, is_apple};
+use scl_text::Mem;
+use std::alloc::Global;
 
 /// What of a version's text counts: what stands before its second dot.
 fn major_and_minor(text: &[u8]) -> &[u8]
@@ -52,17 +54,15 @@ fn catalogued(compiler: Compiler) -> Catalogued
 
 /// What tables say of the words of a compiler's command, of the version that settings give, if they do.
 pub(crate) fn lexicon_of<'a>(
+    alloc: Global,
     tables: &Tables<'a>,
     settings: &Settings,
     compiler: Compiler,
-) -> Lexicon<'a>
-    ensures { lexicon_told result ≡ lexicon_by (tables_of tables.now) (settings_by settings.now).version compiler }
+) -> Mem<Lexicon<'a>>
+    ensures { IfOk result (λ lexicon. lexicon_told lexicon ≡ lexicon_by (tables_of tables.now) (settings_by settings.now).version compiler) }
 {
-    Lexicon {
-        catalogue: tables.catalogue,
-        compiler: catalogued(compiler),
-        version: version_told(settings.version.as_deref()),
-    }
+    let version = version_told(settings.version.as_deref());
+    Lexicon::of(alloc, tables.catalogue, catalogued(compiler), version)
 }
 
 /// What tables know of the compiler whose version settings give, if they do.

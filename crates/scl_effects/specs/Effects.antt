@@ -1,9 +1,9 @@
 -- What the compiler of a command line reads, writes, asks and loads, as a catalogue states it.
-use Rattle.std.specs.Prelude.{ℕ, ◌==◌, Bool, List, [], ◌∷◌, ◌++◌, map, if◌then◌else◌}
+use Rattle.std.specs.Prelude.{ℕ, Bool, List, [], ◌∷◌, ◌++◌, map, if◌then◌else◌}
 use Rattle.std.specs.List.{flat_map}
 use Rattle.scl_catalogue.specs.Form.{Catalogue, Entry, Tells}
 use Rattle.scl_catalogue.specs.Form as form
-use Rattle.scl_catalogue.specs.Found.{LineSeen, OptionSeen, found}
+use Rattle.scl_catalogue.specs.Found.{LineSeen, OptionSeen, behind_equals, found}
 use Rattle.scl_catalogue.specs.Speaking.{speaks_of}
 use Rattle.scl_catalogue.specs.declared.entry.Verb.{Verb}
 use Rattle.scl_catalogue.specs.declared.seen.Standing.{Standing}
@@ -17,11 +17,6 @@ pub record Effect : Type 0 where
   pub verb : Verb
   pub is_like : Bool
   pub name : List ℕ
-
--- what stands after the first `=`
-abbrev pub behind_equals : List ℕ → List ℕ
-behind_equals [] = []
-behind_equals (byte ∷ bytes) = if byte == 61 then bytes else behind_equals bytes
 
 abbrev pub value_by : Standing → (name value : List ℕ) → List ℕ
 value_by standing.Raw name value = value

@@ -10,7 +10,7 @@ use crate::plain::PlainNames;
 use scl_catalogue::{Catalogue, Entry, Level, Line, Seen, Standing, Tells};
 
 /// Whether an entry states what options do, or that they do nothing.
-fn is_of_effects(tells: &Tells<'_>) -> bool
+fn is_of_effects(tells: &Tells) -> bool
     ensures { result ≡ is_of_effects (tells_of tells.now) }
 {
     match tells {
@@ -20,7 +20,7 @@ fn is_of_effects(tells: &Tells<'_>) -> bool
 }
 
 /// Whether one of the entries states what the option does.
-fn one_knows(entries: &[Entry<'_>], line: &Line<'_>, level: Level, option: &Seen<'_>) -> bool
+fn one_knows(entries: &[Entry], line: &Line<'_>, level: Level, option: &Seen<'_>) -> bool
     ensures { result ≡ list_any (knows (line_of line.now) level (seen_of option.now)) (map entry_of entries.now) }
 {
     for entry in entries {
@@ -50,7 +50,7 @@ fn is_plain(names: &PlainNames<'_>, line: &Line<'_>, option: &Seen<'_>) -> bool
 }
 
 fn is_known(
-    catalogue: &Catalogue<'_>,
+    catalogue: &Catalogue,
     names: &PlainNames<'_>,
     line: &Line<'_>,
     level: Level,
@@ -58,12 +58,12 @@ fn is_known(
 ) -> bool
     ensures { result ≡ is_known (catalogue_of catalogue.now) (rows_of names.now) (line_of line.now) level (seen_of option.now) }
 {
-    is_plain(names, line, option) || one_knows(catalogue.entries, line, level, option)
+    is_plain(names, line, option) || one_knows(&catalogue.entries, line, level, option)
 }
 
 /// The name of the first of these options of which nothing is known.
 fn first_unknown<'a>(
-    catalogue: &Catalogue<'_>,
+    catalogue: &Catalogue,
     names: &PlainNames<'_>,
     line: &Line<'_>,
     level: Level,
@@ -82,7 +82,7 @@ fn first_unknown<'a>(
 /// The word or flag of the first option of which neither the catalogue nor the plain names know what it reads, writes, asks and
 /// loads. The options of the line come before the inner ones; an entry counts whether it is there or not.
 pub fn unknown_of<'a>(
-    catalogue: &Catalogue<'_>,
+    catalogue: &Catalogue,
     names: &PlainNames<'_>,
     line: &Line<'a>,
 ) -> Option<&'a [u8]>

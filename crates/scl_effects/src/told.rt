@@ -2,25 +2,13 @@
 ghost use Rattle.std.specs.Prelude.{◌≡◌, ◌++◌, map, IfOk, OnOk};
 ghost use Rattle.std.specs.List.{flat_map};
 ghost use Rattle.scl_catalogue.specs.Views.{entry_of, line_of, seen_of, tells_of};
-ghost use Rattle.scl_effects.specs.Effects.{behind_equals, effects_among, effects_told, value_of, value_spoken, values_filled};
+ghost use Rattle.scl_effects.specs.Effects.{effects_among, effects_told, value_of, value_spoken, values_filled};
 
 use crate::effect::{Effect, effect_of};
 use crate::file::has_value;
-use scl_catalogue::{Entry, Level, Line, Seen, Standing, Tells};
+use scl_catalogue::{Entry, Level, Line, Seen, Standing, Tells, behind_equals};
 use scl_values::Mem;
 use std::alloc::Global;
-
-/// What stands after the first `=`.
-fn behind_equals(word: &[u8]) -> &[u8]
-    ensures { result.now ≡ behind_equals word.now }
-{
-    for (at, byte) in word.iter().enumerate() {
-        if *byte == b'=' {
-            return &word[at + 1..];
-        }
-    }
-    &[]
-}
 
 /// The value of an option.
 fn value_of<'a>(option: &Seen<'a>) -> &'a [u8]
@@ -36,7 +24,7 @@ fn value_of<'a>(option: &Seen<'a>) -> &'a [u8]
 fn push_value<'a>(
     values: &mut Vec<&'a [u8]>,
     line: &Line<'_>,
-    entry: &Entry<'_>,
+    entry: &Entry,
     level: Level,
     option: &Seen<'a>,
 ) -> Mem<()>
@@ -52,7 +40,7 @@ fn push_value<'a>(
 fn push_values<'a>(
     values: &mut Vec<&'a [u8]>,
     line: &Line<'_>,
-    entry: &Entry<'_>,
+    entry: &Entry,
     level: Level,
     options: &[Seen<'a>],
 ) -> Mem<()>
@@ -68,7 +56,7 @@ fn push_values<'a>(
 fn values_filled<'a>(
     alloc: Global,
     line: &Line<'a>,
-    entry: &Entry<'_>,
+    entry: &Entry,
     file: &[u8],
 ) -> Mem<Vec<&'a [u8]>>
     ensures { IfOk result (λ values. map (λ value. value.now) values.items ≡ values_filled (line_of line.now) (entry_of entry.now) file.now) }
@@ -84,25 +72,20 @@ fn values_filled<'a>(
 }
 
 /// Appends the effects that an entry states.
-fn push_told(
-    alloc: Global,
-    effects: &mut Vec<Effect>,
-    line: &Line<'_>,
-    entry: &Entry<'_>,
-) -> Mem<()>
+fn push_told(alloc: Global, effects: &mut Vec<Effect>, line: &Line<'_>, entry: &Entry) -> Mem<()>
     ensures { OnOk result (effects.new.items ≡ effects.old.items ++ effects_told (line_of line.now) (entry_of entry.now) (tells_of entry.now.tells)) }
 {
-    let Tells::Effect(verb, file) = entry.tells else {
+    let Tells::Effect(verb, file) = &entry.tells else {
         return Ok(());
     };
     for value in &values_filled(alloc, line, entry, file)? {
-        effects.push(effect_of(alloc, line, verb, file, value)?)?;
+        effects.push(effect_of(alloc, line, *verb, file, value)?)?;
     }
     Ok(())
 }
 
 /// The effects that entries state of a line, in their order.
-pub fn effects_among(alloc: Global, line: &Line<'_>, entries: &[&Entry<'_>]) -> Mem<Vec<Effect>>
+pub fn effects_among(alloc: Global, line: &Line<'_>, entries: &[&Entry]) -> Mem<Vec<Effect>>
     ensures { IfOk result (λ effects. effects.items ≡ effects_among (line_of line.now) (map (λ entry. entry_of entry.now) entries.now)) }
 {
     let mut effects = Vec::new(alloc);

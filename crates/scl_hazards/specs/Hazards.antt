@@ -26,7 +26,7 @@ pub record Known : Type 0 where
   pub is_apple : Bool
 
 abbrev pub tables_of : declared.Tables → Tables
-tables_of t = record { catalogue = catalogue_of t.catalogue; plain = rows_of t.plain }
+tables_of t = record { catalogue = catalogue_of t.catalogue.now; plain = rows_of t.plain }
 
 -- how bad a hazard is, its name, and what happens with the built command
 pub record Hazard : Type 0 where

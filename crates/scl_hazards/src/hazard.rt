@@ -48,14 +48,14 @@ impl<'a> Hazard<'a> {
 }
 
 /// The hazard that an entry states, if it states one.
-pub fn hazard_of<'a>(entry: &Entry<'a>) -> Option<Hazard<'a>>
+pub fn hazard_of(entry: &Entry) -> Option<Hazard<'_>>
     ensures { result ≡ hazard_told (entry_of entry.now) }
 {
-    match entry.tells {
+    match &entry.tells {
         Tells::Hazard(danger) => Some(Hazard {
-            danger,
-            name: entry.name,
-            consequence: entry.says,
+            danger: *danger,
+            name: &entry.name,
+            consequence: &entry.says,
         }),
         Tells::Effect(_, _)
         | Tells::Reason
@@ -67,7 +67,7 @@ pub fn hazard_of<'a>(entry: &Entry<'a>) -> Option<Hazard<'a>>
 }
 
 /// Appends the hazard that an entry states, if it states one.
-fn push_hazard<'a>(hazards: &mut Vec<Hazard<'a>>, entry: &Entry<'a>) -> Mem<()>
+fn push_hazard<'a>(hazards: &mut Vec<Hazard<'a>>, entry: &'a Entry) -> Mem<()>
     ensures { OnOk result (hazards.new.items ≡ hazards.old.items ++ listed (hazard_told (entry_of entry.now))) }
 {
     if let Some(hazard) = hazard_of(entry) {
@@ -77,7 +77,7 @@ fn push_hazard<'a>(hazards: &mut Vec<Hazard<'a>>, entry: &Entry<'a>) -> Mem<()>
 }
 
 /// The hazards among entries, in their order.
-pub(crate) fn hazards_among<'a>(alloc: Global, entries: &[&'a Entry<'a>]) -> Mem<Vec<Hazard<'a>>>
+pub(crate) fn hazards_among<'a>(alloc: Global, entries: &[&'a Entry]) -> Mem<Vec<Hazard<'a>>>
     ensures { IfOk result (λ hazards. hazards.items ≡ hazards_among (map (λ entry. entry_of entry.now) entries.now)) }
 {
     let mut hazards = Vec::new(alloc);

@@ -12,7 +12,7 @@ use std::marker::Model;
 #[derive(Debug, Clone, Copy)]
 pub struct Tables<'a> {
     /// The catalogue.
-    pub catalogue: Catalogue<'a>,
+    pub catalogue: &'a Catalogue,
     /// Names of options that read, write, ask and load nothing.
     pub plain: PlainNames<'a>,
 }
@@ -33,7 +33,7 @@ impl<'a> Model for Known<'a> {
 
     ghost Value = { Known };
 
-    ghost view = { λ k. record { catalogue = catalogue_of k.tables.catalogue; plain = rows_of k.tables.plain; version = k.version; is_apple = k.is_apple } };
+    ghost view = { λ k. record { catalogue = catalogue_of k.tables.catalogue.now; plain = rows_of k.tables.plain; version = k.version; is_apple = k.is_apple } };
 }
 
 impl<'a> Known<'a> {
@@ -50,10 +50,10 @@ impl<'a> Known<'a> {
     }
 
     /// The catalogue.
-    pub fn catalogue(&self) -> &Catalogue<'a>
+    pub fn catalogue(&self) -> &'a Catalogue
         ensures { catalogue_of result.now ≡ self.now.catalogue }
     {
-        &self.tables.catalogue
+        self.tables.catalogue
     }
 
     /// The names of options that do nothing.

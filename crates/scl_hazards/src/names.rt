@@ -45,17 +45,17 @@ fn serves(served: &[Served], compiler: Compiler) -> bool
     false
 }
 
-fn is_case_of(case: &Case<'_>, compiler: Compiler) -> bool
+fn is_case_of(case: &Case, compiler: Compiler) -> bool
     ensures { result ≡ is_case_of compiler (case_of case.now) }
 {
-    serves(case.served, compiler)
+    serves(&case.served, compiler)
 }
 
 /// Whether a case of the entry speaks of the compiler, in one of its versions.
-pub fn is_of(entry: &Entry<'_>, compiler: Compiler) -> bool
+pub fn is_of(entry: &Entry, compiler: Compiler) -> bool
     ensures { result ≡ is_of compiler (entry_of entry.now) }
 {
-    for case in entry.cases {
+    for case in &entry.cases {
         if is_case_of(case, compiler) {
             return true;
         }

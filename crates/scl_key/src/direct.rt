@@ -138,15 +138,15 @@ fn names_sources(language: Language) -> bool
 
 /// Whether the files that its markers name, and those that stand where it searches, are all that a run reads.
 fn may_direct(line: &Line<'_, '_>, known: &Known<'_>) -> bool
-    requires common { all_judged known.now.common.items ≡ judged_in (lexicon_of line.now.lexicon) (parsed_of line.now.parsed.now).common_args }
+    requires common { all_judged known.now.common.items ≡ judged_in (lexicon_of line.now.lexicon.now) (parsed_of line.now.parsed.now).common_args }
     requires given { all_given known.now.given.items ≡ given_in (parsed_of line.now.parsed.now).preprocessor_args }
-    ensures { result ≡ may_direct (lexicon_of line.now.lexicon) line.now.compiler (parsed_of line.now.parsed.now) }
+    ensures { result ≡ may_direct (lexicon_of line.now.lexicon.now) line.now.compiler (parsed_of line.now.parsed.now) }
 {
     is_gnu(line.compiler)
         && names_sources(line.parsed.language)
         && !is_among(HIDES_HEADER, &line.parsed.common_args)
         && all_known(&known.given)
-        && are_quiet(&line.lexicon, &known.common)
+        && are_quiet(line.lexicon, &known.common)
 }
 
 // ---- what is searched
@@ -306,9 +306,9 @@ fn all_directs(
 
 /// What a cache needs in direct mode; nothing if the mode may not be used.
 pub(crate) fn directs(alloc: Global, line: &Line<'_, '_>, known: &Known<'_>) -> Mem<Vec<Direct>>
-    requires common { all_judged known.now.common.items ≡ judged_in (lexicon_of line.now.lexicon) (parsed_of line.now.parsed.now).common_args }
+    requires common { all_judged known.now.common.items ≡ judged_in (lexicon_of line.now.lexicon.now) (parsed_of line.now.parsed.now).common_args }
     requires given { all_given known.now.given.items ≡ given_in (parsed_of line.now.parsed.now).preprocessor_args }
-    ensures { IfOk result (λ rows. directs_of rows.items ≡ directs (lexicon_of line.now.lexicon) line.now.compiler (parsed_of line.now.parsed.now)) }
+    ensures { IfOk result (λ rows. directs_of rows.items ≡ directs (lexicon_of line.now.lexicon.now) line.now.compiler (parsed_of line.now.parsed.now)) }
 {
     if may_direct(line, known) {
         all_directs(alloc, line.compiler, &known.given, line.parsed)

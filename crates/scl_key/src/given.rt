@@ -306,13 +306,13 @@ pub(crate) struct Known<'a> {
 
 /// What is known of the record of a line. It is computed once for each key.
 pub(crate) fn known_of<'a>(alloc: Global, line: &Line<'a, '_>) -> Mem<Known<'a>>
-    ensures common { IfOk result (λ known. all_judged known.common.items ≡ judged_in (lexicon_of line.now.lexicon) (parsed_of line.now.parsed.now).common_args) }
+    ensures common { IfOk result (λ known. all_judged known.common.items ≡ judged_in (lexicon_of line.now.lexicon.now) (parsed_of line.now.parsed.now).common_args) }
     ensures given { IfOk result (λ known. all_given known.given.items ≡ given_in (parsed_of line.now.parsed.now).preprocessor_args) }
-    ensures macros { IfOk result (λ known. known.has_macros ≡ has_macros (lexicon_of line.now.lexicon) (parsed_of line.now.parsed.now)) }
-    ensures shown { IfOk result (λ known. known.is_shown ≡ shows (lexicon_of line.now.lexicon) line.now.compiler (parsed_of line.now.parsed.now)) }
+    ensures macros { IfOk result (λ known. known.has_macros ≡ has_macros (lexicon_of line.now.lexicon.now) (parsed_of line.now.parsed.now)) }
+    ensures shown { IfOk result (λ known. known.is_shown ≡ shows (lexicon_of line.now.lexicon.now) line.now.compiler (parsed_of line.now.parsed.now)) }
 {
     let parsed = line.parsed;
-    let common = judged_words(alloc, &line.lexicon, &parsed.common_args)?;
+    let common = judged_words(alloc, line.lexicon, &parsed.common_args)?;
     let given = given_in(alloc, &parsed.preprocessor_args)?;
     let macros = has_macros(&common);
     let is_shown = shows(line.compiler, parsed.language, macros, &given);

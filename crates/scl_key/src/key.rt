@@ -271,9 +271,9 @@ fn push_files(
     line: &Line<'_, '_>,
     known: &Known<'_>,
 ) -> Mem<()>
-    requires common { all_judged known.now.common.items ≡ judged_in (lexicon_of line.now.lexicon) (parsed_of line.now.parsed.now).common_args }
+    requires common { all_judged known.now.common.items ≡ judged_in (lexicon_of line.now.lexicon.now) (parsed_of line.now.parsed.now).common_args }
     requires given { all_given known.now.given.items ≡ given_in (parsed_of line.now.parsed.now).preprocessor_args }
-    ensures { OnOk result (parts_of parts.new.items ≡ parts_of parts.old.items ++ file_parts (lexicon_of line.now.lexicon) line.now.compiler (run_words_of line.now.words) (parsed_of line.now.parsed.now)) }
+    ensures { OnOk result (parts_of parts.new.items ≡ parts_of parts.old.items ++ file_parts (lexicon_of line.now.lexicon.now) line.now.compiler (run_words_of line.now.words) (parsed_of line.now.parsed.now)) }
 {
     push_asked_variables(alloc, parts, Ask::Env, variables(line.compiler))?;
     push_asked_variables(alloc, parts, Ask::Unset, unset_variables(line.compiler))?;
@@ -305,11 +305,11 @@ fn push_texts(
     line: &Line<'_, '_>,
     known: &Known<'_>,
 ) -> Mem<()>
-    requires common { all_judged known.now.common.items ≡ judged_in (lexicon_of line.now.lexicon) (parsed_of line.now.parsed.now).common_args }
+    requires common { all_judged known.now.common.items ≡ judged_in (lexicon_of line.now.lexicon.now) (parsed_of line.now.parsed.now).common_args }
     requires given { all_given known.now.given.items ≡ given_in (parsed_of line.now.parsed.now).preprocessor_args }
-    requires macros { known.now.has_macros ≡ has_macros (lexicon_of line.now.lexicon) (parsed_of line.now.parsed.now) }
-    requires shown { known.now.is_shown ≡ shows (lexicon_of line.now.lexicon) line.now.compiler (parsed_of line.now.parsed.now) }
-    ensures { OnOk result (parts_of parts.new.items ≡ parts_of parts.old.items ++ text_parts (lexicon_of line.now.lexicon) line.now.compiler (parsed_of line.now.parsed.now)) }
+    requires macros { known.now.has_macros ≡ has_macros (lexicon_of line.now.lexicon.now) (parsed_of line.now.parsed.now) }
+    requires shown { known.now.is_shown ≡ shows (lexicon_of line.now.lexicon.now) line.now.compiler (parsed_of line.now.parsed.now) }
+    ensures { OnOk result (parts_of parts.new.items ≡ parts_of parts.old.items ++ text_parts (lexicon_of line.now.lexicon.now) line.now.compiler (parsed_of line.now.parsed.now)) }
 {
     push_runs(alloc, parts, line.compiler, known.has_macros, line.parsed)?;
     push_precompiled(alloc, parts, line.compiler, &known.given, line.parsed)?;
@@ -326,11 +326,11 @@ fn push_asking(
     line: &Line<'_, '_>,
     known: &Known<'_>,
 ) -> Mem<()>
-    requires common { all_judged known.now.common.items ≡ judged_in (lexicon_of line.now.lexicon) (parsed_of line.now.parsed.now).common_args }
+    requires common { all_judged known.now.common.items ≡ judged_in (lexicon_of line.now.lexicon.now) (parsed_of line.now.parsed.now).common_args }
     requires given { all_given known.now.given.items ≡ given_in (parsed_of line.now.parsed.now).preprocessor_args }
-    requires macros { known.now.has_macros ≡ has_macros (lexicon_of line.now.lexicon) (parsed_of line.now.parsed.now) }
-    requires shown { known.now.is_shown ≡ shows (lexicon_of line.now.lexicon) line.now.compiler (parsed_of line.now.parsed.now) }
-    ensures { OnOk result (parts_of parts.new.items ≡ parts_of parts.old.items ++ asked_parts (lexicon_of line.now.lexicon) line.now.compiler (run_words_of line.now.words) (parsed_of line.now.parsed.now)) }
+    requires macros { known.now.has_macros ≡ has_macros (lexicon_of line.now.lexicon.now) (parsed_of line.now.parsed.now) }
+    requires shown { known.now.is_shown ≡ shows (lexicon_of line.now.lexicon.now) line.now.compiler (parsed_of line.now.parsed.now) }
+    ensures { OnOk result (parts_of parts.new.items ≡ parts_of parts.old.items ++ asked_parts (lexicon_of line.now.lexicon.now) line.now.compiler (run_words_of line.now.words) (parsed_of line.now.parsed.now)) }
 {
     parts.push(Part::Directory)?;
     parts.push(Part::Compiler)?;
@@ -357,12 +357,12 @@ fn key_with(
     known: &Known<'_>,
     outputs: &[Output],
 ) -> Mem<Vec<Part>>
-    requires common { all_judged known.now.common.items ≡ judged_in (lexicon_of line.now.lexicon) (parsed_of line.now.parsed.now).common_args }
+    requires common { all_judged known.now.common.items ≡ judged_in (lexicon_of line.now.lexicon.now) (parsed_of line.now.parsed.now).common_args }
     requires given { all_given known.now.given.items ≡ given_in (parsed_of line.now.parsed.now).preprocessor_args }
-    requires macros { known.now.has_macros ≡ has_macros (lexicon_of line.now.lexicon) (parsed_of line.now.parsed.now) }
-    requires shown { known.now.is_shown ≡ shows (lexicon_of line.now.lexicon) line.now.compiler (parsed_of line.now.parsed.now) }
+    requires macros { known.now.has_macros ≡ has_macros (lexicon_of line.now.lexicon.now) (parsed_of line.now.parsed.now) }
+    requires shown { known.now.is_shown ≡ shows (lexicon_of line.now.lexicon.now) line.now.compiler (parsed_of line.now.parsed.now) }
     requires outputs { outputs_of outputs.now ≡ made (parsed_of line.now.parsed.now) }
-    ensures { IfOk result (λ key. parts_of key.items ≡ key_of (lexicon_of line.now.lexicon) line.now.compiler (pairs_of line.now.environment.now) (run_words_of line.now.words) (parsed_of line.now.parsed.now)) }
+    ensures { IfOk result (λ key. parts_of key.items ≡ key_of (lexicon_of line.now.lexicon.now) line.now.compiler (pairs_of line.now.environment.now) (run_words_of line.now.words) (parsed_of line.now.parsed.now)) }
 {
     let mut parts = told(alloc, line, known.is_shown)?;
     push_outputs(alloc, &mut parts, outputs)?;
@@ -372,12 +372,12 @@ fn key_with(
 
 /// The key, with these outputs, and what direct mode needs.
 fn kept(alloc: Global, line: &Line<'_, '_>, known: &Known<'_>, outputs: &[Output]) -> Mem<Keeping>
-    requires common { all_judged known.now.common.items ≡ judged_in (lexicon_of line.now.lexicon) (parsed_of line.now.parsed.now).common_args }
+    requires common { all_judged known.now.common.items ≡ judged_in (lexicon_of line.now.lexicon.now) (parsed_of line.now.parsed.now).common_args }
     requires given { all_given known.now.given.items ≡ given_in (parsed_of line.now.parsed.now).preprocessor_args }
-    requires macros { known.now.has_macros ≡ has_macros (lexicon_of line.now.lexicon) (parsed_of line.now.parsed.now) }
-    requires shown { known.now.is_shown ≡ shows (lexicon_of line.now.lexicon) line.now.compiler (parsed_of line.now.parsed.now) }
+    requires macros { known.now.has_macros ≡ has_macros (lexicon_of line.now.lexicon.now) (parsed_of line.now.parsed.now) }
+    requires shown { known.now.is_shown ≡ shows (lexicon_of line.now.lexicon.now) line.now.compiler (parsed_of line.now.parsed.now) }
     requires outputs { outputs_of outputs.now ≡ made (parsed_of line.now.parsed.now) }
-    ensures { IfOk result (λ keeping. keeping_told keeping ≡ under (whole_key (lexicon_of line.now.lexicon) line.now.compiler (pairs_of line.now.environment.now) (run_words_of line.now.words) (parsed_of line.now.parsed.now))) }
+    ensures { IfOk result (λ keeping. keeping_told keeping ≡ under (whole_key (lexicon_of line.now.lexicon.now) line.now.compiler (pairs_of line.now.environment.now) (run_words_of line.now.words) (parsed_of line.now.parsed.now))) }
 {
     let parts = key_with(alloc, line, known, outputs)?;
     let direct = directs(alloc, line, known)?;
@@ -395,12 +395,12 @@ fn kept_unless(
     known: &Known<'_>,
     outputs: &[Output],
 ) -> Mem<Keeping>
-    requires common { all_judged known.now.common.items ≡ judged_in (lexicon_of line.now.lexicon) (parsed_of line.now.parsed.now).common_args }
+    requires common { all_judged known.now.common.items ≡ judged_in (lexicon_of line.now.lexicon.now) (parsed_of line.now.parsed.now).common_args }
     requires given { all_given known.now.given.items ≡ given_in (parsed_of line.now.parsed.now).preprocessor_args }
-    requires macros { known.now.has_macros ≡ has_macros (lexicon_of line.now.lexicon) (parsed_of line.now.parsed.now) }
-    requires shown { known.now.is_shown ≡ shows (lexicon_of line.now.lexicon) line.now.compiler (parsed_of line.now.parsed.now) }
+    requires macros { known.now.has_macros ≡ has_macros (lexicon_of line.now.lexicon.now) (parsed_of line.now.parsed.now) }
+    requires shown { known.now.is_shown ≡ shows (lexicon_of line.now.lexicon.now) line.now.compiler (parsed_of line.now.parsed.now) }
     requires outputs { outputs_of outputs.now ≡ made (parsed_of line.now.parsed.now) }
-    ensures { IfOk result (λ keeping. keeping_told keeping ≡ keeping_of (lexicon_of line.now.lexicon) line.now.compiler (pairs_of line.now.environment.now) (run_words_of line.now.words) (parsed_of line.now.parsed.now)) }
+    ensures { IfOk result (λ keeping. keeping_told keeping ≡ keeping_of (lexicon_of line.now.lexicon.now) line.now.compiler (pairs_of line.now.environment.now) (run_words_of line.now.words) (parsed_of line.now.parsed.now)) }
 {
     let why = no_keys(alloc, line, &known.common, outputs)?;
     if !why.is_empty() {
@@ -413,7 +413,7 @@ fn kept_unless(
 /// The key of a line's record, or why there is none: with the environment that its command gets, and the words that a cache runs
 /// at a miss (docs/RULES.md, Keys).
 pub fn key_of(alloc: Global, line: &Line<'_, '_>) -> Mem<Keeping>
-    ensures { IfOk result (λ keeping. keeping_told keeping ≡ keeping_of (lexicon_of line.now.lexicon) line.now.compiler (pairs_of line.now.environment.now) (run_words_of line.now.words) (parsed_of line.now.parsed.now)) }
+    ensures { IfOk result (λ keeping. keeping_told keeping ≡ keeping_of (lexicon_of line.now.lexicon.now) line.now.compiler (pairs_of line.now.environment.now) (run_words_of line.now.words) (parsed_of line.now.parsed.now)) }
 {
     let known = known_of(alloc, line)?;
     let outputs = made(alloc, line.parsed)?;

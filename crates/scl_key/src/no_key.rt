@@ -356,13 +356,13 @@ fn push_by_record(
     line: &Line<'_, '_>,
     common: &[Judged<'_>],
 ) -> Mem<()>
-    requires common { all_judged common.now ≡ judged_in (lexicon_of line.now.lexicon) (parsed_of line.now.parsed.now).common_args }
-    ensures { OnOk result (no_keys_of why.new.items ≡ no_keys_of why.old.items ++ no_keys_by_words (lexicon_of line.now.lexicon) (parsed_of line.now.parsed.now)) }
+    requires common { all_judged common.now ≡ judged_in (lexicon_of line.now.lexicon.now) (parsed_of line.now.parsed.now).common_args }
+    ensures { OnOk result (no_keys_of why.new.items ≡ no_keys_of why.old.items ++ no_keys_by_words (lexicon_of line.now.lexicon.now) (parsed_of line.now.parsed.now)) }
 {
-    push_by_unjudged(alloc, why, &line.lexicon, &line.parsed.preprocessor_args)?;
+    push_by_unjudged(alloc, why, line.lexicon, &line.parsed.preprocessor_args)?;
     push_by_words(alloc, why, common)?;
-    push_by_unjudged(alloc, why, &line.lexicon, &line.parsed.unhashed_args)?;
-    push_by_unjudged(alloc, why, &line.lexicon, &line.parsed.dependency_args)
+    push_by_unjudged(alloc, why, line.lexicon, &line.parsed.unhashed_args)?;
+    push_by_unjudged(alloc, why, line.lexicon, &line.parsed.dependency_args)
 }
 
 /// Why there is no key, with these outputs.
@@ -372,9 +372,9 @@ pub(crate) fn no_keys(
     common: &[Judged<'_>],
     outputs: &[Output],
 ) -> Mem<Vec<NoKey>>
-    requires common { all_judged common.now ≡ judged_in (lexicon_of line.now.lexicon) (parsed_of line.now.parsed.now).common_args }
+    requires common { all_judged common.now ≡ judged_in (lexicon_of line.now.lexicon.now) (parsed_of line.now.parsed.now).common_args }
     requires outputs { outputs_of outputs.now ≡ made (parsed_of line.now.parsed.now) }
-    ensures { IfOk result (λ why. no_keys_of why.items ≡ no_keys (lexicon_of line.now.lexicon) line.now.compiler (run_words_of line.now.words) (parsed_of line.now.parsed.now)) }
+    ensures { IfOk result (λ why. no_keys_of why.items ≡ no_keys (lexicon_of line.now.lexicon.now) line.now.compiler (run_words_of line.now.words) (parsed_of line.now.parsed.now)) }
 {
     let mut why = Vec::new(alloc);
     push_hazard(alloc, &mut why, line.words)?;

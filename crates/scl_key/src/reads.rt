@@ -241,13 +241,13 @@ pub(crate) fn files_perhaps(
     line: &Line<'_, '_>,
     known: &Known<'_>,
 ) -> Mem<Vec<Vec<u8>>>
-    requires common { all_judged known.now.common.items ≡ judged_in (lexicon_of line.now.lexicon) (parsed_of line.now.parsed.now).common_args }
+    requires common { all_judged known.now.common.items ≡ judged_in (lexicon_of line.now.lexicon.now) (parsed_of line.now.parsed.now).common_args }
     requires given { all_given known.now.given.items ≡ given_in (parsed_of line.now.parsed.now).preprocessor_args }
-    ensures { IfOk result (λ paths. words_of paths.items ≡ files_perhaps (lexicon_of line.now.lexicon) line.now.compiler (parsed_of line.now.parsed.now)) }
+    ensures { IfOk result (λ paths. words_of paths.items ≡ files_perhaps (lexicon_of line.now.lexicon.now) line.now.compiler (parsed_of line.now.parsed.now)) }
 {
     let mut paths = Vec::new(alloc);
     push_paths(alloc, &mut paths, &known.common)?;
-    let unhashed = judged_words(alloc, &line.lexicon, &line.parsed.unhashed_args)?;
+    let unhashed = judged_words(alloc, line.lexicon, &line.parsed.unhashed_args)?;
     push_paths(alloc, &mut paths, &unhashed)?;
     push_macro_files(alloc, &mut paths, &known.given)?;
     push_profiles(alloc, &mut paths, &known.common, line.parsed)?;

@@ -35,7 +35,7 @@ pub struct Line<'a, 'c> {
     /// The compiler that read it.
     pub compiler: Compiler,
     /// What is known of the words of its command.
-    pub lexicon: Lexicon<'c>,
+    pub lexicon: &'c Lexicon<'c>,
     /// The environment that its command gets.
     pub environment: &'a [(Vec<u8>, Vec<u8>)],
     /// The words that a cache runs at a miss.
@@ -130,8 +130,8 @@ fn facts_beside(alloc: Global, line: &Line<'_, '_>, is_shown: bool) -> Mem<Vec<P
 
 /// What is hashed as it stands.
 pub(crate) fn told(alloc: Global, line: &Line<'_, '_>, is_shown: bool) -> Mem<Vec<Part>>
-    requires shown { is_shown ≡ shows (lexicon_of line.now.lexicon) line.now.compiler (parsed_of line.now.parsed.now) }
-    ensures { IfOk result (λ parts. parts_of parts.items ≡ told (lexicon_of line.now.lexicon) line.now.compiler (pairs_of line.now.environment.now) (run_words_of line.now.words) (parsed_of line.now.parsed.now)) }
+    requires shown { is_shown ≡ shows (lexicon_of line.now.lexicon.now) line.now.compiler (parsed_of line.now.parsed.now) }
+    ensures { IfOk result (λ parts. parts_of parts.items ≡ told (lexicon_of line.now.lexicon.now) line.now.compiler (pairs_of line.now.environment.now) (run_words_of line.now.words) (parsed_of line.now.parsed.now)) }
 {
     let parts = facts_beside(alloc, line, is_shown)?;
     let mut facts = Facts {

@@ -95,7 +95,7 @@ pub static ROWS: &[Row] = rows![
     (ALL, "--launcher", "NAME", Takes::Several, "Pass over programs of this name, which start the compiler; it may be given again"),
     (ALL, "--multiarch", "", Takes::Nothing, "Allow several -arch"),
     (ALL, "--compiler-version", "VERSION", Takes::One, "The compiler's version: 14 or 12.2 for hazards, 14.0.6 for runs, or a text that names Apple's"),
-    (KNOWING, "--catalogue", "FILE", Takes::One, "Take what is known of compilers, their hazards and the effects of their options, from this catalogue, and not from the built-in one"),
+    (KNOWING, "--catalogue", "FILE", Takes::One, "Add what this catalogue says of compilers to the built-in one; an entry takes the place of the built-in one of its name"),
     (LINE, "words", "COMPILER WORD", Takes::Rest, "The compiler and its words"),
     (&["why"], "files", "FILE", Takes::Paths, "A source of an entry: its path, or the last parts of it"),
     (&["diff"], "words", "A B", Takes::RestOrNothing, "Two sources of entries; or, after --, two command lines with -- between them"),

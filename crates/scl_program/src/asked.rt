@@ -1,5 +1,4 @@
 //! What the program is to do, as its words say it.
-use crate::BuiltIn;
 use clap::ArgMatches;
 use scl_base_dirs::base_dirs;
 use scl_cl::text::command::copy_words;
@@ -17,8 +16,6 @@ pub struct Asked<'m, 'a> {
     pub read: &'m ArgMatches<'a>,
     /// The words that are no options of the program, as they are.
     pub words: &'m [Vec<u8>],
-    /// What is built in.
-    pub built_in: BuiltIn<'m>,
 }
 
 /// What is compared.

@@ -1,11 +1,10 @@
-//! What is known of compilers: the built-in catalogue, or one that is passed.
+//! What is known of compilers: the built-in catalogue, with one over it where it is passed.
 use crate::asked::Asked;
 use crate::fault::{Fault, warn};
 use crate::file::{name_of, read_regular_file};
 use crate::{BuiltIn, batch, diff, one, tables, why};
-use bumpalo::Bump;
-use scl_catalogue_text::{BadLine, ReadError, read};
-use scl_describe::{Catalogue, Tables};
+use scl_catalogue_text::{BadLine, ReadError};
+use scl_describe::{Catalogue, PlainNames, Tables};
 use scl_explain::Ending;
 use scl_reader::is_apple;
 use scl_shell::shown_briefly;
@@ -19,19 +18,17 @@ fn answer(rt: &HostRuntime, known: &Tables<'_>, asked: &Asked<'_, '_>) -> Result
         "database" => batch::database(rt, known, asked),
         "why" => why::why(rt, known, asked),
         "diff" => diff::diff(rt, known, asked),
-        "reasons" => tables::reasons(rt, &known.catalogue, asked),
-        "flags" => tables::flags(rt, asked),
-        _ => tables::page(rt, asked),
+        _ => tables::reasons(rt, known.catalogue, asked),
     }
 }
 
 /// Answers a request, by a catalogue.
 fn answer_with(
     rt: &HostRuntime,
-    catalogue: Catalogue<'_>,
+    catalogue: &Catalogue,
+    plain: PlainNames<'static>,
     asked: &Asked<'_, '_>,
 ) -> Result<Ending, Fault> {
-    let plain = asked.built_in.plain;
     answer(rt, &Tables { catalogue, plain }, asked)
 }
 
@@ -49,33 +46,51 @@ fn wrong_line(rt: &HostRuntime, path: &str, text: &[u8], bad: BadLine) -> Result
     Ok(Ending::Usage)
 }
 
-/// Answers a request, by the catalogue of a file's text, which is read into the arena.
-fn answer_by_text<'a>(
+/// Reports that a line of the built-in catalogue is wrong. The gate runs the program, so none is.
+fn wrong_built_in(rt: &HostRuntime, bad: BadLine) -> Result<Ending, Fault> {
+    let line = format!(in rt.alloc(); "the built-in catalogue:{}: {}", bad.line, bad.mistake)?;
+    warn(rt, &line);
+    Ok(Ending::Usage)
+}
+
+/// Answers a request, by the catalogue of a file over the built-in one.
+fn answer_by_file<B: BuiltIn>(
     rt: &HostRuntime,
+    built_in: &B,
     path: &str,
-    arena: &'a Bump,
-    text: &'a [u8],
     asked: &Asked<'_, '_>,
 ) -> Result<Ending, Fault> {
-    match read(rt.alloc(), arena, text) {
-        Ok(catalogue) => answer_with(rt, catalogue, asked),
-        Err(ReadError::BadLine(bad)) => wrong_line(rt, path, text, bad),
+    let text = read_regular_file(rt, path)?;
+    match built_in.over(rt.alloc(), &text) {
+        Ok(catalogue) => answer_with(rt, &catalogue, built_in.plain(), asked),
+        Err(ReadError::BadLine(bad)) if bad.line == 0 => wrong_built_in(rt, bad),
+        Err(ReadError::BadLine(bad)) => wrong_line(rt, path, &text, bad),
         Err(ReadError::Memory) => Err(Fault::Memory),
     }
 }
 
-/// Answers a request, by the catalogue of a file.
-fn answer_by_file(rt: &HostRuntime, path: &str, asked: &Asked<'_, '_>) -> Result<Ending, Fault> {
-    let text = read_regular_file(rt, path)?;
-    let arena = Bump::new(rt.alloc());
-    answer_by_text(rt, path, &arena, &text, asked)
+/// Answers a request, by the built-in catalogue.
+fn answer_by_built_in<B: BuiltIn>(
+    rt: &HostRuntime,
+    built_in: &B,
+    asked: &Asked<'_, '_>,
+) -> Result<Ending, Fault> {
+    match built_in.catalogue(rt.alloc()) {
+        Ok(catalogue) => answer_with(rt, &catalogue, built_in.plain(), asked),
+        Err(ReadError::BadLine(bad)) => wrong_built_in(rt, bad),
+        Err(ReadError::Memory) => Err(Fault::Memory),
+    }
 }
 
-/// The catalogue that is built in.
-fn built_in_catalogue<'a>(built_in: BuiltIn<'a>) -> Catalogue<'a> {
-    Catalogue {
-        groups: &[],
-        entries: built_in.entries,
+/// Answers a request, by the catalogue that is named over the built-in one, or by that alone.
+fn answer_by_catalogue<B: BuiltIn>(
+    rt: &HostRuntime,
+    built_in: &B,
+    asked: &Asked<'_, '_>,
+) -> Result<Ending, Fault> {
+    match asked.value("--catalogue") {
+        Some(path) => answer_by_file(rt, built_in, path, asked),
+        None => answer_by_built_in(rt, built_in, asked),
     }
 }
 
@@ -97,8 +112,12 @@ fn tells_version(text: &str) -> bool {
     is_numbers(text) || is_apple(Some(text))
 }
 
-/// Answers a request by the catalogue that is named, or by the one that is built in.
-pub fn answer_by(rt: &HostRuntime, asked: &Asked<'_, '_>) -> Result<Ending, Fault> {
+/// Answers a request. A catalogue is read only for what needs one, since that takes longer than all else of a short request.
+pub fn answer_by<B: BuiltIn>(
+    rt: &HostRuntime,
+    built_in: &B,
+    asked: &Asked<'_, '_>,
+) -> Result<Ending, Fault> {
     let told = asked.value("--compiler-version");
     if told.is_some_and(|text| !tells_version(text)) {
         warn(
@@ -107,8 +126,9 @@ pub fn answer_by(rt: &HostRuntime, asked: &Asked<'_, '_>) -> Result<Ending, Faul
         );
         return Ok(Ending::Usage);
     }
-    match asked.value("--catalogue") {
-        Some(path) => answer_by_file(rt, path, asked),
-        None => answer_with(rt, built_in_catalogue(asked.built_in), asked),
+    match asked.name {
+        "flags" => tables::flags(rt, asked),
+        "completions" | "man" => tables::page(rt, asked),
+        _ => answer_by_catalogue(rt, built_in, asked),
     }
 }

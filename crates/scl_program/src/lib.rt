@@ -18,25 +18,30 @@ mod why;
 
 use crate::arguments::raw_arguments;
 use crate::fault::{Fault, warn};
-use scl_describe::{Entry, PlainNames};
+use scl_catalogue_text::ReadError;
+use scl_describe::{Catalogue, PlainNames};
 use scl_explain::Ending;
+use std::alloc::Global;
 
-/// What is built in of what is known of compilers.
-#[derive(Clone, Copy)]
-pub struct BuiltIn<'a> {
-    /// The entries of the catalogue, which name no group.
-    pub entries: &'a [Entry<'static>],
+/// What is built in of what is known of compilers. Its catalogue is read anew in each call, so only what needs it calls.
+pub trait BuiltIn {
+    /// Reads the catalogue.
+    fn catalogue(&self, alloc: Global) -> Result<Catalogue, ReadError>;
+
+    /// Reads this text as a catalogue over it. The line of an error is 0 where the text is right, and what is built in is not.
+    fn over(&self, alloc: Global, text: &[u8]) -> Result<Catalogue, ReadError>;
+
     /// Names of options that read, write, ask and load nothing.
-    pub plain: PlainNames<'static>,
+    fn plain(&self) -> PlainNames<'static>;
 }
 
-fn answer_arguments(rt: &HostRuntime, built_in: BuiltIn<'_>) -> Result<Ending, Fault> {
+fn answer_arguments<B: BuiltIn>(rt: &HostRuntime, built_in: &B) -> Result<Ending, Fault> {
     let arguments = raw_arguments(rt)?;
     options::answer(rt, &arguments, built_in)
 }
 
 /// Does what the program's arguments request, and reports what keeps it from that. The status to end with.
-pub fn answer(rt: &HostRuntime, built_in: BuiltIn<'_>) -> u8 {
+pub fn answer<B: BuiltIn>(rt: &HostRuntime, built_in: &B) -> u8 {
     match answer_arguments(rt, built_in) {
         Ok(ending) => ending.status(),
         Err(fault) => {
@@ -46,10 +51,4 @@ pub fn answer(rt: &HostRuntime, built_in: BuiltIn<'_>) -> u8 {
             fault.ending().status()
         }
     }
-}
-
-/// Reports that there is no memory. The status to end with.
-pub fn without_memory(rt: &HostRuntime) -> u8 {
-    warn(rt, &Fault::Memory);
-    Ending::OutOfMemory.status()
 }

@@ -138,23 +138,22 @@ fn tell(rt: &HostRuntime, arguments: &[Vec<u8>], error: &Error) -> Result<Ending
 }
 
 /// Does what a command requests, unless something is wrong with its words, which is reported.
-fn answer_command<'m, 'a>(
+fn answer_command<'m, 'a, B: BuiltIn>(
     rt: &HostRuntime,
     arguments: &'m [Vec<u8>],
     name: &'a str,
     read: &'m ArgMatches<'a>,
-    built_in: BuiltIn<'m>,
+    built_in: &B,
 ) -> Result<Ending, Fault> {
     let own = arguments.len().saturating_sub(count_of_words(read));
     let asked = Asked {
         name,
         read,
         words: arguments.get(own..).unwrap_or(&[]),
-        built_in,
     };
     match what_is_wrong(rt.alloc(), arguments.get(..own).unwrap_or(&[]), &asked)? {
         Some(what) => Ok(wrong_words(rt, arguments, what.as_str())?),
-        None => answer_by(rt, &asked),
+        None => answer_by(rt, built_in, &asked),
     }
 }
 
@@ -163,10 +162,10 @@ fn matches_of<'a>(alloc: Global, words: &'a [String]) -> Result<ArgMatches<'a>, 
 }
 
 /// Does what the arguments request; help is written and mistakes are reported.
-pub fn answer(
+pub fn answer<B: BuiltIn>(
     rt: &HostRuntime,
     arguments: &[Vec<u8>],
-    built_in: BuiltIn<'_>,
+    built_in: &B,
 ) -> Result<Ending, Fault> {
     let words = shown_words(rt.alloc(), arguments)?;
     match matches_of(rt.alloc(), &words) {

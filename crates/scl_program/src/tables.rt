@@ -18,7 +18,7 @@ pub fn write(rt: &HostRuntime, text: &[u8]) -> Result<Ending, Fault> {
 /// Writes each reason and hazard.
 pub fn reasons(
     rt: &HostRuntime,
-    catalogue: &Catalogue<'_>,
+    catalogue: &Catalogue,
     asked: &Asked<'_, '_>,
 ) -> Result<Ending, Fault> {
     if asked.has("--json") {

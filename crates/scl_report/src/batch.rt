@@ -246,7 +246,7 @@ impl<'a> Batch<'a> {
             Ok(String::new(alloc))
         } else {
             let keeps = self.keep.then_some(&tally.keeps);
-            summary(alloc, &self.tables.catalogue, &tally.counts, keeps)
+            summary(alloc, self.tables.catalogue, &tally.counts, keeps)
         }
     }
 }

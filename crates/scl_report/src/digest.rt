@@ -65,12 +65,12 @@ fn push_hazard(alloc: Global, text: &mut String, counts: &Counts, hazard: &Hazar
 fn push_hazards(
     alloc: Global,
     text: &mut String,
-    catalogue: &Catalogue<'_>,
+    catalogue: &Catalogue,
     counts: &Counts,
 ) -> Mem<()> {
     let hazardous = counts.hazardous;
     write!(text, "with a hazard: {hazardous}\n")?;
-    for entry in catalogue.entries {
+    for entry in &catalogue.entries {
         if let Some(hazard) = hazard_of(entry) {
             push_hazard(alloc, text, counts, &hazard)?;
         }
@@ -155,7 +155,7 @@ fn refused_entries(counts: &Counts) -> u64 {
 /// What was counted over a database, for a person.
 pub(crate) fn summary(
     alloc: Global,
-    catalogue: &Catalogue<'_>,
+    catalogue: &Catalogue,
     counts: &Counts,
     keeps: Option<&Keeps>,
 ) -> Mem<String> {

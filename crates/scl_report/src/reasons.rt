@@ -30,7 +30,7 @@ fn push_explanation(text: &mut String, explanation: &Explanation) -> Mem<()> {
 }
 
 /// The compilers of which the entry speaks.
-fn push_compilers(text: &mut String, entry: &Entry<'_>) -> Mem<()> {
+fn push_compilers(text: &mut String, entry: &Entry) -> Mem<()> {
     let mut before = "";
     for compiler in COMPILERS {
         if is_of(entry, compiler) {
@@ -42,12 +42,7 @@ fn push_compilers(text: &mut String, entry: &Entry<'_>) -> Mem<()> {
     Ok(())
 }
 
-fn push_hazard(
-    alloc: Global,
-    text: &mut String,
-    entry: &Entry<'_>,
-    hazard: &Hazard<'_>,
-) -> Mem<()> {
+fn push_hazard(alloc: Global, text: &mut String, entry: &Entry, hazard: &Hazard<'_>) -> Mem<()> {
     let name = shown(alloc, hazard.name())?;
     let danger = danger_name(hazard.danger());
     write!(text, "{name} ({danger}; ")?;
@@ -73,10 +68,12 @@ fn push_verdicts(text: &mut String) -> Mem<()> {
     write!(text, "unknown\n    {UNKNOWN}\n")
 }
 
-/// Appends the hazards of a catalogue.
-fn push_hazards(alloc: Global, text: &mut String, catalogue: &Catalogue<'_>) -> Mem<()> {
-    for entry in catalogue.entries {
-        if let Some(hazard) = hazard_of(entry) {
+/// Appends the hazards of a catalogue. An entry without cases takes one away, so it is none.
+fn push_hazards(alloc: Global, text: &mut String, catalogue: &Catalogue) -> Mem<()> {
+    for entry in &catalogue.entries {
+        if let Some(hazard) = hazard_of(entry)
+            && !entry.cases.is_empty()
+        {
             push_hazard(alloc, text, entry, &hazard)?;
         }
     }
@@ -85,7 +82,7 @@ fn push_hazards(alloc: Global, text: &mut String, catalogue: &Catalogue<'_>) -> 
 
 /// Each reason why a command line can't be cached, each why nothing may be kept under a key, and each hazard of a built command that
 /// is known, with a sentence for people.
-pub fn reasons_text(alloc: Global, catalogue: &Catalogue<'_>) -> Mem<String> {
+pub fn reasons_text(alloc: Global, catalogue: &Catalogue) -> Mem<String> {
     let mut text = String::from_str(alloc, "Reasons why a command line cannot be cached:\n")?;
     push_explanations(&mut text)?;
     text.push_str("\nReasons why nothing may be kept under a key:\n")?;
@@ -105,7 +102,7 @@ fn tell_explanation(rows: &mut RowList, explanation: &Explanation) -> Mem<()> {
 }
 
 /// The names of the compilers of which the entry speaks.
-fn compiler_names(alloc: Global, entry: &Entry<'_>) -> Mem<Vec<Vec<u8>>> {
+fn compiler_names(alloc: Global, entry: &Entry) -> Mem<Vec<Vec<u8>>> {
     let mut names = Vec::new(alloc);
     for compiler in COMPILERS {
         if is_of(entry, compiler) {
@@ -116,12 +113,7 @@ fn compiler_names(alloc: Global, entry: &Entry<'_>) -> Mem<Vec<Vec<u8>>> {
 }
 
 /// Tells the row of a hazard: its name, its danger, what happens, and the compilers.
-fn tell_hazard(
-    alloc: Global,
-    rows: &mut RowList,
-    entry: &Entry<'_>,
-    hazard: &Hazard<'_>,
-) -> Mem<()> {
+fn tell_hazard(alloc: Global, rows: &mut RowList, entry: &Entry, hazard: &Hazard<'_>) -> Mem<()> {
     let danger = danger_name(hazard.danger()).as_bytes();
     let compilers = compiler_names(alloc, entry)?;
     tell_danger(
@@ -133,9 +125,11 @@ fn tell_hazard(
     )
 }
 
-fn tell_hazards(alloc: Global, rows: &mut RowList, catalogue: &Catalogue<'_>) -> Mem<()> {
-    for entry in catalogue.entries {
-        if let Some(hazard) = hazard_of(entry) {
+fn tell_hazards(alloc: Global, rows: &mut RowList, catalogue: &Catalogue) -> Mem<()> {
+    for entry in &catalogue.entries {
+        if let Some(hazard) = hazard_of(entry)
+            && !entry.cases.is_empty()
+        {
             tell_hazard(alloc, rows, entry, &hazard)?;
         }
     }
@@ -152,7 +146,7 @@ fn tell_verdicts(rows: &mut RowList) -> Mem<()> {
 }
 
 /// The same as a document: the rows `reasons` and `keep`, and the hazards (docs/PROTOCOL.md, JSON).
-pub fn reasons_json(alloc: Global, catalogue: &Catalogue<'_>) -> Mem<Vec<u8>> {
+pub fn reasons_json(alloc: Global, catalogue: &Catalogue) -> Mem<Vec<u8>> {
     let mut rows = versioned(alloc)?;
     for explanation in explanations() {
         tell_explanation(&mut rows, explanation)?;

@@ -106,7 +106,7 @@ abbrev pub FrontsTell : Type 0
 FrontsTell =
     (front one other : List ℕ)
     → (value_at (front ++ 0x2f ∷ one) ≡ value_at (front ++ 0x2f ∷ other))
-    × ((l : Lexicon) → NamesHaveNoSlash l.catalogue → naming_of l (front ++ 0x2f ∷ one) ≡ naming_of l (front ++ 0x2f ∷ other))
+    × ((l : Lexicon) → NamesHaveNoSlash l → naming_of l (front ++ 0x2f ∷ one) ≡ naming_of l (front ++ 0x2f ∷ other))
 
 -- what makes verdicts equal: how an object is made, what each word makes it name, and what the prefix maps leave
 pub record AreMadeAlike (dirs others : List (List ℕ)) (o o' : Object) : Type 0 where

@@ -9,4 +9,4 @@ mod mapping;
 mod naming;
 mod requests;
 
-pub use requests::{Kind, Requests};
+pub use requests::{Kind, Requests, asks_description};

@@ -1,7 +1,7 @@
 //! Requests of each kind.
 ghost use Rattle.std.specs.Prelude.{◌≡◌, drop};
 ghost use Rattle.scl_description.specs.Lines.{lines_of};
-ghost use Rattle.scl_requests.specs.Requests.{kind_in, kind_of};
+ghost use Rattle.scl_requests.specs.Requests.{is_described, kind_in, kind_of};
 
 use crate::depfile::depfile_said;
 use crate::joining::joined;
@@ -56,6 +56,17 @@ fn kind_of(bytes: &[u8]) -> Kind
     match next_line(bytes) {
         Some((line, _)) => kind_in(line),
         None => Kind::Description,
+    }
+}
+
+/// Whether a description is requested. All else is answered without what is known of compilers, so who answers that need not
+/// read a catalogue.
+pub fn asks_description(bytes: &[u8]) -> bool
+    ensures { result ≡ is_described (kind_of (lines_of bytes.now)) }
+{
+    match kind_of(bytes) {
+        Kind::Description => true,
+        Kind::Name | Kind::Join | Kind::Map | Kind::Depfile | Kind::MadeBy => false,
     }
 }
 

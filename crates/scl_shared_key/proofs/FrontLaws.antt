@@ -1,25 +1,27 @@
 -- What stands before the first `/` of a word tells what it makes the object name.
-use Rattle.std.proofs.Common.{◌≡◌, ℕ, nat_eq, ◌==◌, ◌&&◌, ◌||◌, not, Bool, true, false, cond, List, [], ◌∷◌, ◌++◌, find, Option, Some, None, refl, sym, ap, ◌∙◌, ◌⊎◌, inl, inr}
+use Rattle.std.proofs.Common.{◌≡◌, ℕ, nat_eq, ◌==◌, ◌&&◌, ◌||◌, not, Bool, true, false, cond, List, [], ◌∷◌, ◌++◌, find, unwrap_or, Option, Some, None, refl, sym, ap, ◌∙◌, ◌⊎◌, inl, inr}
 use Rattle.std.proofs.lemmas.Bool.{and_parts, and_right, cases_Bool, false≢true, not-true}
 use Rattle.std.proofs.lemmas.Slice.Eq.{bytes_eq-Decides}
 use Rattle.std.specs.List.{list_all, list_any, starts_with}
 use Rattle.std.specs.Option.{option_map}
 use Rattle.std.specs.Str.{bytes_eq}
 use Rattle.scl_base_dirs.specs.Cuts.{has_none}
-use Rattle.scl_catalogue.specs.Form.{Pattern, Text, Demand, Marked, Value, Part, Test, Group, Relation, Condition, Case, Entry, Tells}
+use Rattle.scl_catalogue.specs.Form.{Pattern, Text, Demand, Marked, Value, Part, Test, Group, Relation, Condition, Case, Entry}
 use Rattle.scl_catalogue.specs.Found.{compared, fits, in_group, is_met, is_of, name_by, one_fits, passes, serves, test_passes}
 use Rattle.scl_catalogue.specs.Keyed.{first_group}
-use Rattle.scl_catalogue.specs.Lookup.{Lexicon, naming_of, naming_told, word_seen}
+use Rattle.scl_catalogue.specs.Lookup.{Lexicon, Said, naming_of, word_seen}
 use Rattle.scl_catalogue.specs.Speaking.{asks_for, begins_with, case_speaks_of, relation_at, speaks_of}
 use Rattle.scl_catalogue.specs.declared.case.Compiler.{Compiler}
 use Rattle.scl_catalogue.specs.declared.case.Version.{Version}
+use Rattle.scl_catalogue.specs.declared.entry.Naming.{Naming}
+use Rattle.scl_catalogue.specs.declared.entry.Naming.TheVariants as naming
 use Rattle.scl_catalogue.specs.declared.seen.Standing.TheVariants as standing
 use Rattle.scl_catalogue.specs.declared.speaking.Level.TheVariants as level
 use Rattle.scl_catalogue.specs.declared.test.Class.{Class}
 use Rattle.scl_catalogue.specs.declared.test.Class.TheVariants as class
 use Rattle.scl_catalogue.specs.declared.text.How.{How}
 use Rattle.scl_catalogue.specs.declared.text.How.TheVariants as how
-use Rattle.scl_shared_key.specs.Fronts.{asks_by_fronts, is_case_of_fronts, is_condition_of_fronts, is_entry_of_fronts, is_from_front, is_group_of_fronts, is_pattern_of_fronts, is_test_of_fronts, is_text_of_fronts, says_names}
+use Rattle.scl_shared_key.specs.Fronts.{asks_by_fronts, is_case_of_fronts, is_condition_of_fronts, is_from_front, is_group_of_fronts, is_pattern_of_fronts, is_said_by_fronts, is_test_of_fronts, is_text_of_fronts}
 use Rattle.scl_shared_key.specs.Laws.{FrontsTellNamings}
 
 -- ---- tests that are alike
@@ -151,18 +153,15 @@ entry_alike compiler version front one other e h =
     any_alike is_case_of_fronts (case_speaks_of compiler version level.Outer (word_seen (at_front front one)))
     (case_speaks_of compiler version level.Outer (word_seen (at_front front other))) (case_alike compiler version front one other) e.cases h
 
--- whether an entry says what the word makes the object name
-abbrev says_of : Lexicon → List ℕ → Entry → Bool
-says_of l word e = says_names e.tells && speaks_of l.compiler l.version level.Outer (word_seen word) e
+-- whether the entry speaks of the word
+abbrev speaks : Lexicon → List ℕ → Said Naming → Bool
+speaks l word s = speaks_of l.compiler l.version level.Outer (word_seen word) s.entry
 
-said_alike : (l : Lexicon) (front one other : List ℕ) (e : Entry) → is_entry_of_fronts e ≡ true → says_of l (at_front front one) e ≡ says_of l (at_front front other) e
-said_alike l front one other e h =
-    guarded (says_names e.tells) (list_all is_case_of_fronts e.cases)
-    (speaks_of l.compiler l.version level.Outer (word_seen (at_front front one)) e) (speaks_of l.compiler l.version level.Outer (word_seen (at_front front other)) e)
-    h (entry_alike l.compiler l.version front one other e)
+said_alike : (l : Lexicon) (front one other : List ℕ) (s : Said Naming) → is_said_by_fronts s ≡ true → speaks l (at_front front one) s ≡ speaks l (at_front front other) s
+said_alike l front one other s h = entry_alike l.compiler l.version front one other s.entry h
 
 pub fronts_tell_namings : FrontsTellNamings
 unfolding naming_of
 fronts_tell_namings = λ l front one other h.
-    ap (λ (found : Option Entry). naming_told (option_map (λ e. e.tells) found))
-    (find_alike is_entry_of_fronts (says_of l (at_front front one)) (says_of l (at_front front other)) (said_alike l front one other) l.catalogue.entries h)
+    ap (λ (found : Option (Said Naming)). unwrap_or (option_map (λ s. s.says) found) naming.Anything)
+    (find_alike is_said_by_fronts (speaks l (at_front front one)) (speaks l (at_front front other)) (said_alike l front one other) l.names h)

@@ -2,10 +2,12 @@
 use Rattle.std.specs.Prelude.{◌≡◌, Bool, true, false, not, ◌&&◌, ◌||◌, Option, None, Some}
 use Rattle.std.specs.List.{list_all}
 use Rattle.scl_base_dirs.specs.Cuts.{has_none}
-use Rattle.scl_catalogue.specs.Form.{Pattern, Text, Test, Group, Relation, Condition, Case, Tells, Hazard, Effect, Reason, Plain, Key, Run, Names, Entry, Catalogue}
+use Rattle.scl_catalogue.specs.Form.{Pattern, Text, Test, Group, Relation, Condition, Case}
 use Rattle.scl_catalogue.specs.Found.{is_of}
 use Rattle.scl_catalogue.specs.Keyed.{first_group}
+use Rattle.scl_catalogue.specs.Lookup.{Lexicon, Said}
 use Rattle.scl_catalogue.specs.Speaking.{relation_at}
+use Rattle.scl_catalogue.specs.declared.entry.Naming.{Naming}
 use Rattle.scl_catalogue.specs.declared.seen.Standing.TheVariants as standing
 use Rattle.scl_catalogue.specs.declared.speaking.Level.TheVariants as level
 use Rattle.scl_catalogue.specs.declared.text.How.{How}
@@ -41,20 +43,10 @@ is_condition_of_fronts c = asks_by_fronts (relation_at level.Outer c.question)
 abbrev pub is_case_of_fronts : Case → Bool
 is_case_of_fronts c = list_all is_condition_of_fronts c.conditions
 
--- it says what words make the object name
-abbrev pub says_names : Tells → Bool
-says_names (Hazard d) = false
-says_names (Effect v file) = false
-says_names Reason = false
-says_names Plain = false
-says_names (Key d) = false
-says_names (Run d) = false
-says_names (Names n) = true
+-- it speaks of words by such names
+abbrev pub is_said_by_fronts : Said Naming → Bool
+is_said_by_fronts s = list_all is_case_of_fronts s.entry.cases
 
--- it does not say what words make the object name, or speaks of words by such names
-abbrev pub is_entry_of_fronts : Entry → Bool
-is_entry_of_fronts e = not (says_names e.tells) || list_all is_case_of_fronts e.cases
-
--- Where the catalogue says what words make the object name, it has their beginnings or whole texts, without a `/`.
-abbrev pub NamesHaveNoSlash : Catalogue → Type 0
-NamesHaveNoSlash c = list_all is_entry_of_fronts c.entries ≡ true
+-- Where it is said what words make the object name, it is said of their beginnings or whole texts, without a `/`.
+abbrev pub NamesHaveNoSlash : Lexicon → Type 0
+NamesHaveNoSlash l = list_all is_said_by_fronts l.names ≡ true

@@ -36,4 +36,4 @@ OnlyTheBaseDiffers =
 -- What a word makes the object name, what stands before its first `/` tells.
 abbrev pub FrontsTellNamings : Type 0
 FrontsTellNamings =
-    (l : Lexicon) (front one other : List ℕ) → NamesHaveNoSlash l.catalogue → naming_of l (front ++ 0x2f ∷ one) ≡ naming_of l (front ++ 0x2f ∷ other)
+    (l : Lexicon) (front one other : List ℕ) → NamesHaveNoSlash l → naming_of l (front ++ 0x2f ∷ one) ≡ naming_of l (front ++ 0x2f ∷ other)

@@ -2,6 +2,7 @@
 use Rattle.std.specs.Prelude.{ℕ, Bool, true, false, nat_eq, ◌&&◌, ◌||◌, not, List, length, drop, Option, Some, None, codes}
 use Rattle.std.specs.List.{filter_map, list_all, list_any, starts_with}
 use Rattle.std.specs.Str.{bytes_eq}
+use Rattle.scl_catalogue.specs.Found.{behind_equals}
 use Rattle.scl_catalogue.specs.Lookup.{Lexicon, naming_of}
 use Rattle.scl_catalogue.specs.declared.entry.Naming.{Naming}
 use Rattle.scl_catalogue.specs.declared.entry.Naming.TheVariants.{Nothing, DebugInfo, FileMap, DebugMap, MacroMap, Anything}
@@ -19,9 +20,9 @@ prefix_map in_debug_info in_macros value = record { in_debug_info = in_debug_inf
 abbrev pub map_by : Naming → List ℕ → Option PrefixMap
 map_by Nothing word = None
 map_by DebugInfo word = None
-map_by FileMap word = Some (prefix_map true true (drop (length (codes "-ffile-prefix-map=")) word))
-map_by DebugMap word = Some (prefix_map true false (drop (length (codes "-fdebug-prefix-map=")) word))
-map_by MacroMap word = Some (prefix_map false true (drop (length (codes "-fmacro-prefix-map=")) word))
+map_by FileMap word = Some (prefix_map true true (behind_equals word))
+map_by DebugMap word = Some (prefix_map true false (behind_equals word))
+map_by MacroMap word = Some (prefix_map false true (behind_equals word))
 map_by Anything word = None
 
 -- the maps among words

@@ -13,7 +13,7 @@ object_of o = record {
   is_of_c = o.is_of_c;
   is_of_shown_text = o.is_of_shown_text;
   is_alone = o.is_alone;
-  lexicon = lexicon_of o.lexicon;
+  lexicon = lexicon_of o.lexicon.now;
   words = words_of o.common.now ++ words_of o.arch.now ++ words_of o.unhashed.now;
 }
 

@@ -20,7 +20,7 @@ fn named_in_debug_info(
     object: &Object<'_, '_>,
     maps: &[PrefixMap<'_>],
 ) -> InObject
-    requires { maps_of maps.now ≡ maps_among (lexicon_of object.now.lexicon) (object_of object.now).words }
+    requires { maps_of maps.now ≡ maps_among (lexicon_of object.now.lexicon.now) (object_of object.now).words }
     ensures { result ≡ named_in_debug_info (words_of dirs.now) (object_of object.now) }
 {
     if object.maps_reach() && debug_info_is_free(dirs, maps) {
@@ -32,7 +32,7 @@ fn named_in_debug_info(
 
 /// Whether the object, whose command has these prefix maps, names one of the directories.
 fn named_in(dirs: &[Vec<u8>], object: &Object<'_, '_>, maps: &[PrefixMap<'_>]) -> InObject
-    requires { maps_of maps.now ≡ maps_among (lexicon_of object.now.lexicon) (object_of object.now).words }
+    requires { maps_of maps.now ≡ maps_among (lexicon_of object.now.lexicon.now) (object_of object.now).words }
     ensures { result ≡ named_in (words_of dirs.now) (object_of object.now) }
 {
     if !are_usual(dirs) || !object.is_of_shown_text || object.may_name_anything() {
@@ -47,12 +47,12 @@ fn named_in(dirs: &[Vec<u8>], object: &Object<'_, '_>, maps: &[PrefixMap<'_>]) -
 
 /// The prefix maps of the command.
 fn prefix_maps<'a>(alloc: Global, object: &Object<'a, '_>) -> Mem<Vec<PrefixMap<'a>>>
-    ensures { IfOk result (λ maps. maps_of maps.items ≡ maps_among (lexicon_of object.now.lexicon) (object_of object.now).words) }
+    ensures { IfOk result (λ maps. maps_of maps.items ≡ maps_among (lexicon_of object.now.lexicon.now) (object_of object.now).words) }
 {
     let mut maps = Vec::new(alloc);
-    push_maps(&mut maps, &object.lexicon, object.common)?;
-    push_maps(&mut maps, &object.lexicon, object.arch)?;
-    push_maps(&mut maps, &object.lexicon, object.unhashed)?;
+    push_maps(&mut maps, object.lexicon, object.common)?;
+    push_maps(&mut maps, object.lexicon, object.arch)?;
+    push_maps(&mut maps, object.lexicon, object.unhashed)?;
     Ok(maps)
 }
 

@@ -8,7 +8,7 @@ ghost use Rattle.scl_shared_key.specs.MapViews.{map_of, maps_of};
 ghost use Rattle.scl_shared_key.specs.Maps.{all_free, are_apart, begin_alike, begins_with_other, debug_info_is_free, frees_dir, is_free, macros_are_free, map_by, maps_among, maps_dir, maps_hold, maps_in_debug_info, maps_in_macros};
 
 use crate::usual::has_usual_bytes;
-use scl_catalogue::{Lexicon, Naming};
+use scl_catalogue::{Lexicon, Naming, behind_equals};
 use scl_values::Mem;
 
 /// A map.
@@ -37,17 +37,17 @@ fn map_by(naming: Naming, word: &[u8]) -> Option<PrefixMap<'_>>
         Naming::FileMap => Some(PrefixMap {
             in_debug_info: true,
             in_macros: true,
-            value: behind(word, b"-ffile-prefix-map=".len()),
+            value: behind_equals(word),
         }),
         Naming::DebugMap => Some(PrefixMap {
             in_debug_info: true,
             in_macros: false,
-            value: behind(word, b"-fdebug-prefix-map=".len()),
+            value: behind_equals(word),
         }),
         Naming::MacroMap => Some(PrefixMap {
             in_debug_info: false,
             in_macros: true,
-            value: behind(word, b"-fmacro-prefix-map=".len()),
+            value: behind_equals(word),
         }),
         Naming::Nothing | Naming::DebugInfo | Naming::Anything => None,
     }

@@ -23,7 +23,7 @@ pub struct Object<'a, 'c> {
     /// Whether nothing else comes out but objects and files of dependencies.
     pub is_alone: bool,
     /// What a catalogue says of the words of its command.
-    pub lexicon: Lexicon<'c>,
+    pub lexicon: &'c Lexicon<'c>,
     /// The common words of the command.
     pub common: &'a [Vec<u8>],
     /// Those of architectures.
@@ -60,18 +60,18 @@ impl Object<'_, '_> {
         ensures { result ≡ may_name_anything (object_of self.now) }
     {
         !self.is_alone
-            || some_name_anything(&self.lexicon, self.common)
-            || some_name_anything(&self.lexicon, self.arch)
-            || some_name_anything(&self.lexicon, self.unhashed)
+            || some_name_anything(self.lexicon, self.common)
+            || some_name_anything(self.lexicon, self.arch)
+            || some_name_anything(self.lexicon, self.unhashed)
     }
 
     /// Whether it has debug information.
     pub(crate) fn has_debug_info(&self) -> bool
         ensures { result ≡ has_debug_info (object_of self.now) }
     {
-        some_make_debug_info(&self.lexicon, self.common)
-            || some_make_debug_info(&self.lexicon, self.arch)
-            || some_make_debug_info(&self.lexicon, self.unhashed)
+        some_make_debug_info(self.lexicon, self.common)
+            || some_make_debug_info(self.lexicon, self.arch)
+            || some_make_debug_info(self.lexicon, self.unhashed)
     }
 
     /// Whether maps reach all names in its debug information.

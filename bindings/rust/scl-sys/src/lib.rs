@@ -1,4 +1,4 @@
-//! The four calls of libscl, as they are in C (`scl.h` has what a caller owes). The crate `scl` makes them safe.
+//! The seven calls of libscl, as they are in C (`scl.h` has what a caller owes). The crate `scl` makes them safe.
 //!
 //! Where libscl is: `SCL_LIB_DIR`, or `pkg-config`. `libscl.a` is linked if it is there, unless `SCL_DYNAMIC` is set.
 #![no_std]
@@ -18,6 +18,12 @@ pub const NO_MEMORY: i32 = 3;
 pub const NEWER: i32 = 5;
 /// A line of the catalogue is wrong; `wanted` is its number.
 pub const BAD_CATALOGUE: i32 = 6;
+
+/// A catalogue that was read.
+#[repr(C)]
+pub struct Catalogue {
+    _private: [u8; 0],
+}
 
 extern "C" {
     /// The protocol of the library.
@@ -47,7 +53,7 @@ extern "C" {
         wanted: *mut usize,
     ) -> i32;
 
-    /// The same, with the hazards of a catalogue's text.
+    /// The same by a catalogue whose text is passed, over the built-in one.
     ///
     /// # Safety
     /// As of [`scl_run`].
@@ -60,6 +66,36 @@ extern "C" {
         room_len: usize,
         wanted: *mut usize,
     ) -> i32;
+
+    /// Reads the catalogue that is built in, and that of a text over it. Where the status is `OK`, `handle` is made.
+    ///
+    /// # Safety
+    /// As of [`scl_run`].
+    pub fn scl_catalogue_new(
+        text: *const u8,
+        text_len: usize,
+        handle: *mut *mut Catalogue,
+        wanted: *mut usize,
+    ) -> i32;
+
+    /// `scl_describe` by the catalogue of a handle, which any number of threads may ask at once.
+    ///
+    /// # Safety
+    /// As of [`scl_run`]; the handle is one that was made and is not freed.
+    pub fn scl_catalogue_describe(
+        handle: *const Catalogue,
+        request: *const u8,
+        request_len: usize,
+        room: *mut u8,
+        room_len: usize,
+        wanted: *mut usize,
+    ) -> i32;
+
+    /// Frees the catalogue of a handle.
+    ///
+    /// # Safety
+    /// The handle is one that was made and is not freed, and no call asks it.
+    pub fn scl_catalogue_drop(handle: *mut Catalogue);
 }
 
 #[cfg(test)]

@@ -13,11 +13,13 @@
 //! (docs/PROTOCOL.md).
 
 mod answer;
+mod catalogue;
 mod maker;
 mod name;
 mod request;
 
 pub use answer::{Answer, KeyRow, Outcome, Output, Row};
+pub use catalogue::Catalogue;
 pub use maker::{made_by, Maker};
 pub use name::{name, Name};
 pub use request::{Error, Request};

@@ -1,6 +1,8 @@
 //! Requests, and the call of the library.
+use crate::catalogue::{built_in, Catalogue};
 use crate::Answer;
 use std::fmt;
+use std::sync::Arc;
 
 /// Why there is no answer. In each case run the given words, and keep nothing.
 #[derive(Clone, Copy, Debug, PartialEq, Eq)]
@@ -38,6 +40,7 @@ pub struct Request {
     directory: Vec<u8>,
     lines: Vec<u8>,
     catalogue: Option<Vec<u8>>,
+    known: Option<Arc<Catalogue>>,
 }
 
 impl Request {
@@ -48,6 +51,7 @@ impl Request {
             directory: Vec::new(),
             lines: Vec::new(),
             catalogue: None,
+            known: None,
         }
     }
 
@@ -109,7 +113,13 @@ impl Request {
         self.line("setting base ", path.as_ref(), None)
     }
 
-    /// The text of a catalogue of hazards, in the place of the built-in one.
+    /// A catalogue that was read, for this request and others. The text of one is then passed over.
+    pub fn known(&mut self, catalogue: &Arc<Catalogue>) -> &mut Request {
+        self.known = Some(catalogue.clone());
+        self
+    }
+
+    /// The text of a catalogue over the built-in one, which is read when the request is asked.
     pub fn catalogue(&mut self, text: impl AsRef<[u8]>) -> &mut Request {
         self.catalogue = Some(text.as_ref().to_vec());
         self
@@ -127,7 +137,12 @@ impl Request {
 
     /// Asks the library.
     pub fn ask(&self) -> Result<Answer, Error> {
-        Answer::of(respond(self.catalogue.as_deref(), &self.text())?)
+        let known = match (&self.known, &self.catalogue) {
+            (Some(known), _) => known.clone(),
+            (None, Some(text)) => Arc::new(Catalogue::new(text)?),
+            (None, None) => built_in()?,
+        };
+        Answer::of(respond(&known, &self.text())?)
     }
 
     /// The text that the library answers to a request of a name, with the words of this one.
@@ -164,14 +179,14 @@ fn put_byte(to: &mut Vec<u8>, byte: u8, is_plain: bool) {
 
 /// The text that is answered to a request of another kind than of a command line.
 pub(crate) fn respond_to_other(request: &[u8]) -> Result<Vec<u8>, Error> {
-    respond(None, request).map_err(|error| match error {
+    respond(&*built_in()?, request).map_err(|error| match error {
         Error::UnknownCompiler => Error::Newer,
         other => other,
     })
 }
 
 /// The text of the description of the answer to a request's text.
-fn respond(catalogue: Option<&[u8]>, request: &[u8]) -> Result<Vec<u8>, Error> {
+fn respond(known: &Catalogue, request: &[u8]) -> Result<Vec<u8>, Error> {
     let mut room = vec![0; 4096 + 8 * request.len()];
     loop {
         let mut wanted = 0;
@@ -181,20 +196,10 @@ fn respond(catalogue: Option<&[u8]>, request: &[u8]) -> Result<Vec<u8>, Error> {
             room.as_mut_ptr(),
             room.len(),
         );
-        // SAFETY: all pointers are of slices with these lengths, which are not null, and `room` is borrowed by nothing else.
+        // SAFETY: all pointers are of slices with these lengths, which are not null, and `room` is borrowed by nothing else; the
+        // handle lives as long as the catalogue.
         let status = unsafe {
-            match catalogue {
-                None => scl_sys::scl_describe(text, len, to, to_len, &mut wanted),
-                Some(it) => scl_sys::scl_describe_with(
-                    it.as_ptr(),
-                    it.len(),
-                    text,
-                    len,
-                    to,
-                    to_len,
-                    &mut wanted,
-                ),
-            }
+            scl_sys::scl_catalogue_describe(known.handle(), text, len, to, to_len, &mut wanted)
         };
         match status {
             scl_sys::OK => {
@@ -205,7 +210,6 @@ fn respond(catalogue: Option<&[u8]>, request: &[u8]) -> Result<Vec<u8>, Error> {
             // (the first line names the compiler; each other one is right, or not known)
             scl_sys::BAD if wanted == 1 => return Err(Error::UnknownCompiler),
             scl_sys::BAD | scl_sys::NEWER => return Err(Error::Newer),
-            scl_sys::BAD_CATALOGUE => return Err(Error::BadCatalogue(wanted)),
             _ => return Err(Error::NoMemory),
         }
     }
@@ -254,6 +258,21 @@ mod tests {
             with_catalogue("# one\n\nwhat is this\n"),
             Err(Error::BadCatalogue(3))
         );
+    }
+
+    #[test]
+    fn a_catalogue_is_shared() {
+        let text = "hazard of-ones-own object\n  says It is one's own.\n  gcc: input a.c\n";
+        let known = Arc::new(Catalogue::new(text).unwrap());
+        let ask = move || {
+            let mut request = Request::new("gcc");
+            request.words(["-c", "a.c"]).known(&known).catalogue("?");
+            let answer = request.ask().unwrap();
+            let mut hazards = answer.hazards();
+            hazards.any(|it| *it == b"of-ones-own"[..])
+        };
+        assert!(std::thread::spawn(ask.clone()).join().unwrap() && ask());
+        assert_eq!(Catalogue::new("?").map(|_| ()), Err(Error::BadCatalogue(1)));
     }
 
     #[test]

@@ -5,4 +5,4 @@ use Rattle.scl_catalogue.specs.Views.{pattern_of}
 use Rattle.scl_catalogue.proofs.keys.may_have.Given as goal
 
 abbrev pub invariant-loop-pattern : goal.invariant-loop-pattern
-invariant-loop-pattern l = list_any (may_fit l.numbers) (map pattern_of (drop l.pattern-index l.text.any.now)) ≡ list_any (may_fit l.numbers) (map pattern_of l.text.any.now)
+invariant-loop-pattern l = list_any (may_fit l.numbers) (map pattern_of (drop l.pattern-index l.text.any.items)) ≡ list_any (may_fit l.numbers) (map pattern_of l.text.any.items)

@@ -1,4 +1,4 @@
-use Rattle.std.proofs.Common.{◌∙◌, Ok, ap, map, sym}
+use Rattle.std.proofs.Common.{map}
 use Rattle.scl_catalogue.specs.Views.{condition_of, group_of}
 use Rattle.scl_catalogue_text.specs.Reading.{condition_read}
 use Rattle.scl_catalogue_text.proofs.EachLemmas.{each_end, each_step}
@@ -11,4 +11,3 @@ loop-part-preserved c =
 pub returns : goal.returns
 returns c =
     each_end (condition_read (map group_of c.args.groups.now)) condition_of c.args.parts.now c.loop-part.part-index c.loop-part.all.items _ c.loop-part-test.false c.loop-part.invariant
-    ∙ ap (λ xs. Ok (map condition_of xs)) (sym (c.in_ok-placed.ensures ∙ c.deref.ensures.value))

@@ -6,5 +6,5 @@ use Rattle.scl_hazards.proofs.names.is_of.Given as goal
 
 abbrev pub invariant-loop-case : goal.invariant-loop-case
 invariant-loop-case l =
-    let all = l.entry.cases.now in
+    let all = l.entry.cases.items in
     list_any (is_case_of l.compiler) (map case_of (drop l.case-index all)) ≡ list_any (is_case_of l.compiler) (map case_of all)

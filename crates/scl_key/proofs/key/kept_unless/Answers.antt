@@ -10,6 +10,6 @@ use Rattle.scl_key.proofs.key.kept_unless.Goals as goal
 
 pub returns : goal.returns
 returns c =
-    let key : Key = whole_key (lexicon_of c.args.line.now.lexicon) c.args.line.now.compiler (pairs_of c.args.line.now.environment.now) (run_words_of c.args.line.now.words) (parsed_of c.args.line.now.parsed.now) in
+    let key : Key = whole_key (lexicon_of c.args.line.now.lexicon.now) c.args.line.now.compiler (pairs_of c.args.line.now.environment.now) (run_words_of c.args.line.now.words) (parsed_of c.args.line.now.parsed.now) in
     let none : c.in_ok-why.why.items ≡ [] = nil_from_length c.in_ok-why.why.items (sym c.in_ok-why.why.ok.0 ∙ eqb-true c.in_ok-why.why.len 0 (sym c.is_empty.ensures ∙ c.if-not-is_empty.false)) in
     c.in_ok-keeping.ensures ∙ ap (λ (why : List NoKey). keeping_by why key) (sym (sym c.in_ok-why.ensures ∙ ap (λ why. no_keys_of why) none))

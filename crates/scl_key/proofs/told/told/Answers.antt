@@ -14,7 +14,7 @@ use Rattle.scl_key.proofs.told.told.Goals as goal
 
 pub returns : goal.returns
 returns c =
-    let l : Lexicon = lexicon_of c.args.line.now.lexicon in
+    let l : Lexicon = lexicon_of c.args.line.now.lexicon.now in
     let compiler : Compiler = c.args.line.now.compiler in
     let p : Parsed = parsed_of c.args.line.now.parsed.now in
     let beside : Bool → List Part = facts_shown compiler (pairs_of c.args.line.now.environment.now) (run_words_of c.args.line.now.words) in

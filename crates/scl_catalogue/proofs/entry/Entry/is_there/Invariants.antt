@@ -7,4 +7,4 @@ use Rattle.scl_catalogue.proofs.entry.Entry.is_there.Given as goal
 abbrev pub invariant-loop-case : goal.invariant-loop-case
 invariant-loop-case l =
     let p = case_holds (line_of l.line) in
-    list_any p (map case_of (drop l.case-index l.self.cases.now)) ≡ list_any p (map case_of l.self.cases.now)
+    list_any p (map case_of (drop l.case-index l.self.cases.items)) ≡ list_any p (map case_of l.self.cases.items)

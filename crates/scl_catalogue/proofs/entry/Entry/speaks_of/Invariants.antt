@@ -7,4 +7,4 @@ use Rattle.scl_catalogue.proofs.entry.Entry.speaks_of.Given as goal
 abbrev pub invariant-loop-case : goal.invariant-loop-case
 invariant-loop-case l =
     let p = case_speaks_of l.compiler l.version l.level (seen_of l.option) in
-    list_any p (map case_of (drop l.case-index l.self.cases.now)) ≡ list_any p (map case_of l.self.cases.now)
+    list_any p (map case_of (drop l.case-index l.self.cases.items)) ≡ list_any p (map case_of l.self.cases.items)

@@ -1,6 +1,0 @@
-use Rattle.std.proofs.Common.{◌≡◌, drop}
-use Rattle.scl_effects.specs.Effects.{behind_equals}
-use Rattle.scl_effects.proofs.told.behind_equals.Given as goal
-
-abbrev pub invariant-loop-at : goal.invariant-loop-at
-invariant-loop-at l = behind_equals (drop l.at l.word) ≡ behind_equals l.word
