@@ -448,6 +448,11 @@ key key-plain plain
   says The outcome has nothing of the sources that is missing from their preprocessed text.
   gcc, clang, clang-cl, cl, diab, tasking: any unknown -ansi -c -pipe -pthread -pedantic -w -g0 -m32 -m64 -fpic -fPIC -fpie -fPIE -fexceptions -frtti -fcommon -fomit-frame-pointer -fstrict-aliasing -ffunction-sections -fdata-sections -fsigned-char -funsigned-char -fwrapv -fshort-enums -fbuiltin -fpch-preprocess -funroll-loops -fasynchronous-unwind-tables | unknown -D* -U* -O* -std=* -fvisibility* -fdiagnostics-color* -fstack-protector* -fno-* -march=* -mtune=* -mcpu=* -msse* -mavx* -W* ! -Wa,* -Wp,* -Wl,* -Werror*
 
+key key-plain-gnu plain
+  says The outcome has nothing of the sources that is missing from their preprocessed text.
+  gcc, clang: any unknown --pipe -no-pie -ffast-math -ffreestanding -finline-functions -fmerge-all-constants -fopenmp -fstack-clash-protection -fstrict-overflow -ftrapv -ftree-vectorize -funwind-tables -maes -mbmi -mbmi2 -mfma -mno-red-zone -mpopcnt -nodefaultlibs -nostartfiles -nostdlib -pg -pie -rdynamic -s | unknown -L* -Wl,* -l* -shared* -static* --param=* --sysroot=* -falign-* -fcf-protection* -ffp-contract=* -fmessage-length=* -frandom-seed=* -fstrict-flex-arrays* -mfpmath=* -mmcu=*
+  clang: any unknown --target=* --warning-suppression-mappings=* -fdiagnostics-absolute-paths
+
 key key-macros macros
   says The outcome has macros, which the preprocessed text does not show.
   gcc, clang, clang-cl, cl, diab, tasking: any unknown -g3 -ggdb3 -gstabs3 -gstabs+3 -gxcoff3 -gvms3 -fdebug-macro
@@ -476,13 +481,20 @@ run run-exact exact
 
 run run-plain plain
   says A run of the preprocessor reads nothing more because of it.
-  gcc, clang, clang-cl, cl, diab, tasking: any unknown -g* -Wa,* -Werror* -Wp,-MD,* -Wp,-MMD,* -f* -m* --param* --target=* -target* --sysroot* -stdlib=* --gcc-toolchain=* -arch* -Xclang* -Xassembler* -pedantic-errors* -Qunused-arguments* -trigraphs* -undef*
+  gcc, clang, clang-cl, cl, diab, tasking: any unknown -g* --coverage -Wa,* -Werror* -Wp,-MD,* -Wp,-MMD,* -f* -m* --param* --target=* -target* --sysroot* -stdlib=* --gcc-toolchain=* -arch* -Xclang* -Xassembler* -pedantic-errors* -Qunused-arguments* -trigraphs* -undef*
 
 # ---- what the object names of the place where it is made: the first entry decides, and else it is `anything`
 
 names names-nothing nothing
   says The object names nothing of the place where it is made because of it.
   gcc, clang, clang-cl, cl, diab, tasking: any unknown -ansi -pipe -pthread -pedantic -pedantic-errors -w -m32 -m64 -fpic -fPIC -fpie -fPIE -fexceptions -frtti -fcommon -fomit-frame-pointer -fstrict-aliasing -ffunction-sections -fdata-sections -fsigned-char -funsigned-char -fwrapv -fshort-enums -funroll-loops -fasynchronous-unwind-tables -fno-exceptions -fno-rtti -fno-common -fno-omit-frame-pointer -fno-strict-aliasing -fno-builtin -fno-plt -fno-pie -fno-stack-protector -fno-math-errno | unknown -fno-threadsafe-statics -fno-semantic-interposition -fno-asynchronous-unwind-tables -fstack-clash-protection -fcolor-diagnostics -Wa,--noexecstack -fno-strict-overflow -fstrict-overflow -fno-delete-null-pointer-checks -fno-ident -fno-trapping-math -ffast-math -fno-signed-zeros -ffp-contract=off -fmerge-all-constants -funwind-tables -fno-unwind-tables -ftree-vectorize -fno-tree-vectorize -fno-inline -finline-functions -ffreestanding -fno-optimize-sibling-calls -fno-lifetime-dse -fmessage-length=0 -mno-red-zone -mfpmath=sse -ftrapv -fno-pic -fno-PIE -mfma -maes -mbmi2 -mpopcnt -g0 | unknown -D* -U* -O* -std=* -fvisibility* -fdiagnostics-color* -fstack-protector* -fcf-protection* -march=* -mtune=* -mcpu=* -msse* -mavx* -ftrivial-auto-var-init=* -ftemplate-depth=* -W* ! -Wa,* -Wp,* -Wl,*
+
+# clang with -g names the source in each place of `-fopenmp`, and maps no such name
+names names-nothing-gnu nothing
+  says The object names nothing of the place where it is made because of it.
+  gcc, clang: any unknown --pipe -no-pie -nodefaultlibs -nostartfiles -nostdlib -pg -pie -rdynamic -s | unknown --param=* -L* -Wl,* -l* -shared* -static* -falign-* -fstrict-flex-arrays* -mmcu=*
+  gcc: any unknown -fopenmp
+  clang: any unknown --target=*
 
 names names-debug-info debug-info
   says Debug information names the directory and the sources.
