@@ -22,7 +22,7 @@ use Rattle.scl_rounds.specs.declared.question.Detail.{Detail}
 use Rattle.scl_rounds.specs.declared.question.Detail.TheVariants as details
 use Rattle.scl_rounds.specs.declared.question.Phase.TheVariants as phases
 use Rattle.scl_rounds.specs.Files.{file_row, files_told, in_one, is_regular, times_by, times_row, times_told}
-use Rattle.scl_rounds.specs.Headers.{all_inside, any_there, folder_of, folders_by, folders_in, headers_told, included_as, inside, is_folder, is_there, leading_in, named, places, places_by}
+use Rattle.scl_rounds.specs.Headers.{all_inside, any_there, folder_of, folders_by, folders_in, headers_told, included_as, inside, is_folder, is_there, leading_in, named, places, places_by, words_told}
 use Rattle.scl_rounds.specs.Keys.{Key, asks_early, is_early, is_made}
 use Rattle.scl_patterns.specs.Patterns.{is_shown}
 use Rattle.scl_rounds.specs.Plans.{asked_plan, called_in, cleaned, files_in_plan, plan_told, planned_on, program_row, programs_told, there_by, there_row, there_told}
@@ -456,12 +456,13 @@ agree_more : (w m : Machine) (paths more : List (List ℕ)) → Agree w m (map f
 agree_more w m [] more h k = k
 agree_more w m (path ∷ paths) more h k = (h.0, agree_more w m paths more h.1 k)
 
-headers_one : (w m : Machine) (paths : List (List ℕ)) → Agree w m (map file paths) → Agree w m (details_asked details.Names m paths) → Agree w m (map file (all_inside m paths))
-    → headers_told w paths ≡ headers_told m paths
-headers_one w m paths n o p =
-    ap (λ b. cond b (files_told w (paths ++ all_inside w paths)) (Some [])) (any_there_one w m paths n)
-    ∙ ap (λ more. cond (any_there m paths) (files_told w (paths ++ more)) (Some [])) (insides_one w m paths n o)
-    ∙ ap (λ rows. cond (any_there m paths) (option_map in_one rows) (Some [])) (files_one w m (paths ++ all_inside m paths) (agree_more w m paths (all_inside m paths) n p))
+headers_one : (key : Key) (w m : Machine) (paths : List (List ℕ)) → Agree w m (map file paths) → Agree w m (details_asked details.Names m paths) → Agree w m (map file (all_inside m paths))
+    → headers_told key w paths ≡ headers_told key m paths
+headers_one key w m paths n o p =
+    ap (λ b. cond b (option_map (λ files. words_told key ∷ files) (files_told w (paths ++ all_inside w paths))) (Some [])) (any_there_one w m paths n)
+    ∙ ap (λ more. cond (any_there m paths) (option_map (λ files. words_told key ∷ files) (files_told w (paths ++ more))) (Some [])) (insides_one w m paths n o)
+    ∙ ap (λ rows. cond (any_there m paths) (option_map (λ files. words_told key ∷ files) (option_map in_one rows)) (Some []))
+    (files_one w m (paths ++ all_inside m paths) (agree_more w m paths (all_inside m paths) n p))
 
 -- ---- all answers
 
@@ -485,7 +486,7 @@ answer_one key w m e t (asked ask name) h k l n o p = asked_one key w m t ask na
 answer_one key w m e t (run words) h k l n o p = run_one w m words (may_fail key) k.0 n
 answer_one key w m e t (run_else words) h k l n o p =
     ap (λ b. cond b (run_told w false (ran_on w words)) (Some no_text)) e ∙ else_one w m words (has_failed key m) l n
-answer_one key w m e t (pch searched) h k l n o p = ap (headers_told w) (places_one key w m searched t h) ∙ headers_one w m (places key m searched) n o p
+answer_one key w m e t (pch searched) h k l n o p = ap (headers_told key w) (places_one key w m searched t h) ∙ headers_one key w m (places key m searched) n o p
 answer_one key w m e t sources h k l n o p =
     ap (λ texts. files_told w (each_once (flat_map marked_in texts ++ filter_map input_of key.parts))) t ∙ ap (option_map in_one) (files_one w m (all_sources key m) n)
 answer_one key w m e t times h k l n o p =

@@ -62,7 +62,7 @@ answer_on key m (plan words) = option_and_then (λ it. plan_told key m it.messag
 answer_on key m (asked ask name) = answer_asked key m ask name
 answer_on key m (run words) = run_told m (may_fail key) (ran_on m words)
 answer_on key m (run_else words) = cond (has_failed key m) (run_told m false (ran_on m words)) (Some no_text)
-answer_on key m (pch searched) = headers_told m (places key m searched)
+answer_on key m (pch searched) = headers_told key m (places key m searched)
 answer_on key m sources = files_told m (all_sources key m)
 answer_on key m times = times_told m (marked key m)
 

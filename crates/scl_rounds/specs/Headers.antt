@@ -1,9 +1,11 @@
 -- The headers that were compiled before, and that gcc may read in the place of the first one that a source includes.
 use Rattle.std.specs.Prelude.{ℕ, ◌-◌, ◌==◌, not, Bool, true, false, cond, List, [], ◌∷◌, ◌++◌, length, take, map, codes, Option, None, Some}
-use Rattle.std.specs.List.{flat_map, list_any, suffix_len}
+use Rattle.std.specs.List.{filter_map, flat_map, list_any, suffix_len}
+use Rattle.std.specs.Option.{option_map}
 use Rattle.std.specs.Str.{bytes_eq}
 use Rattle.scl_files.specs.Paths.{is_slash, join}
-use Rattle.scl_lookup.specs.Keys.{Field}
+use Rattle.scl_key.specs.Parts.{Part, fields, run, run_else}
+use Rattle.scl_lookup.specs.Keys.{Field, Row, said, text_of}
 use Rattle.scl_lookup.specs.Questions.{Standing, regular, folder, special, missing, env, file, names as names_in, Machine}
 use Rattle.scl_readings.specs.Lines.{leading_lines, parts}
 use Rattle.scl_readings.specs.Markers.{files_in}
@@ -107,7 +109,21 @@ is_there missing = false
 abbrev pub any_there : Machine → (paths : List (List ℕ)) → Bool
 any_there m paths = list_any (λ path. is_there (m (file path))) paths
 
--- Nothing, if none is there. Else all places in order with what stands there, since the first that fits is taken, and what is in
--- folders.
-abbrev pub headers_told : Machine → (paths : List (List ℕ)) → Option (List Field)
-headers_told m paths = cond (any_there m paths) (files_told m (paths ++ all_inside m paths)) (Some [])
+-- the row of a run whole, with the words by which it asks
+abbrev pub run_row : Part → Option Row
+run_row (run words) = Some (map said (fields (run words)))
+run_row (run_else words) = Some (map said (fields (run_else words)))
+run_row other = None
+
+abbrev pub run_rows : Key → List Row
+run_rows key = filter_map run_row key.parts
+
+-- The words of the runs, as one text. They say of which kind each folder is: `-isystem j -Ik` and `-Ij -Ik` search the same places,
+-- but not in one order.
+abbrev pub words_told : Key → Field
+words_told key = said (text_of (run_rows key))
+
+-- Nothing, if none is there. Else the words of the runs, all places in order with what stands there, since the first that fits is
+-- taken, and what is in folders.
+abbrev pub headers_told : Key → Machine → (paths : List (List ℕ)) → Option (List Field)
+headers_told key m paths = cond (any_there m paths) (option_map (λ files. words_told key ∷ files) (files_told m (paths ++ all_inside m paths))) (Some [])

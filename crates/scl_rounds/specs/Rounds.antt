@@ -5,14 +5,15 @@ use Rattle.scl_files.specs.Paths.{begins_with_slash}
 use Rattle.scl_key.specs.declared.part.Ask.{Ask}
 use Rattle.scl_key.specs.declared.part.Ask.TheVariants as asks
 use Rattle.scl_key.specs.Parts.{Part, directory, compiler, plan, asked, run as run_part, run_else, pch, sources, times as times_part}
-use Rattle.scl_lookup.specs.Questions.{Question, env, program, file, bytes, names as names_in, real, times, run, Standing, regular, folder, Written, Machine}
+use Rattle.scl_lookup.specs.Questions.{Question, env, program, file, bytes, names as names_in, real, times, run, Standing, Written, Machine}
 use Rattle.scl_questions.specs.Talks.{Stage, ends, talk}
 use Rattle.scl_rounds.specs.declared.question.Detail.{Detail}
 use Rattle.scl_rounds.specs.declared.question.Detail.TheVariants as details
 use Rattle.scl_rounds.specs.declared.question.Phase.{Phase}
 use Rattle.scl_rounds.specs.declared.question.Phase.TheVariants as phases
 use Rattle.scl_rounds.specs.Answers.{rows_on, said_directory}
-use Rattle.scl_rounds.specs.Headers.{all_inside, named, places}
+use Rattle.scl_rounds.specs.Files.{is_regular}
+use Rattle.scl_rounds.specs.Headers.{all_inside, is_folder, named, places}
 use Rattle.scl_rounds.specs.Keys.{Key, is_made}
 use Rattle.scl_patterns.specs.Patterns.{is_shown}
 use Rattle.scl_rounds.specs.Plans.{asked_plan, called_in, files_in_plan, planned_on}
@@ -99,12 +100,19 @@ needed key m other = []
 abbrev pub fourth : Key → Machine → Part → List Question
 fourth key m part = map program (called m part) ++ map file (needed key m part)
 
--- size and time, or the bytes, if there is a file; the names, if there is a folder
+-- size and time, or the bytes, of a file; the names in a folder
+abbrev pub has_detail : Detail → Standing → Bool
+has_detail details.Times it = is_regular it
+has_detail details.Content it = is_regular it
+has_detail details.Names it = is_folder it
+
+abbrev pub detail_question : Detail → List ℕ → Question
+detail_question details.Times path = times path
+detail_question details.Content path = bytes path
+detail_question details.Names path = names_in path
+
 abbrev pub detail_by : Detail → List ℕ → Standing → List Question
-detail_by details.Times path (regular sum) = times path ∷ []
-detail_by details.Content path (regular sum) = bytes path ∷ []
-detail_by details.Names path folder = names_in path ∷ []
-detail_by detail path other = []
+detail_by detail path it = cond (has_detail detail it) (detail_question detail path ∷ []) []
 
 abbrev pub detail_asked : Detail → Machine → List ℕ → List Question
 detail_asked detail m path = detail_by detail path (m (file path))

@@ -15,6 +15,9 @@ use Rattle.scl_rounds.specs.Keys.{Key}
 abbrev pub key_of : declared_key.Key → Key
 key_of k = record { place = k.place.now; parts = parts_of k.parts.now }
 
+abbrev pub key_in : declared_told.Told → Key
+key_in t = key_of t.key.now
+
 -- the machine that answers so
 abbrev pub machine_of : declared_told.Told → Machine
 machine_of t = told (questions_of t.asked.now) (replies_of t.answers.now)

@@ -8,37 +8,33 @@ ghost use Rattle.scl_questions.specs.Views.{row_of};
 ghost use Rattle.scl_rounds.specs.Files.{file_row, files_told, is_regular, times_row, times_told};
 ghost use Rattle.scl_rounds.specs.Views.{machine_of};
 
-use crate::answer::Told;
-use scl_questions::{Answer, Field, Question, Standing, answer_to, maybe_told, standing};
+use crate::answer::{Told, stands};
+use scl_questions::{Answer, Field, Question, Standing, answer_to, maybe_told};
 use scl_values::Mem;
 use std::alloc::Global;
 
 /// A name, and the bytes of its file, or that there is a folder or nothing; none: there is what is no file.
-fn file_row(alloc: Global, told: &Told<'_>, name: &[u8]) -> Mem<Option<Vec<Field>>>
+fn file_row(told: &Told<'_>, name: &[u8]) -> Mem<Option<Vec<Field>>>
     ensures { IfOk result (λ row. option_map (λ row. row_of row.items) row ≡ file_row (machine_of told.now) name.now) }
 {
-    let standing = standing(alloc, name, told.asked, told.answers)?;
-    let Some(mut answer) = maybe_told(alloc, standing)? else {
+    let standing = stands(told, name)?;
+    let Some(mut answer) = maybe_told(told.alloc, standing)? else {
         return Ok(None);
     };
-    let mut row = Vec::new(alloc);
-    row.push(Field::Said(Vec::from_slice(alloc, name)?))?;
+    let mut row = Vec::new(told.alloc);
+    row.push(Field::Said(Vec::from_slice(told.alloc, name)?))?;
     row.append(&mut answer)?;
     Ok(Some(row))
 }
 
 /// Names, and the bytes of each; none: there is what is no file.
 #[tactic(auto, using(crate::proofs::FileLemmas::file_there))]
-pub(crate) fn files_told(
-    alloc: Global,
-    told: &Told<'_>,
-    names: &[Vec<u8>],
-) -> Mem<Option<Vec<Field>>>
+pub(crate) fn files_told(told: &Told<'_>, names: &[Vec<u8>]) -> Mem<Option<Vec<Field>>>
     ensures { IfOk result (λ answer. option_map (λ answer. row_of answer.items) answer ≡ files_told (machine_of told.now) (words_of names.now)) }
 {
-    let mut answer = Vec::new(alloc);
+    let mut answer = Vec::new(told.alloc);
     for name in names {
-        match file_row(alloc, told, name)? {
+        match file_row(told, name)? {
             Some(mut row) => answer.append(&mut row)?,
             None => return Ok(None),
         }
@@ -47,20 +43,20 @@ pub(crate) fn files_told(
 }
 
 /// Whether a file stands at a path.
-pub(crate) fn is_regular(alloc: Global, told: &Told<'_>, path: &[u8]) -> Mem<bool>
+pub(crate) fn is_regular(told: &Told<'_>, path: &[u8]) -> Mem<bool>
     ensures { IfOk result (λ it. it ≡ is_regular (machine_of told.now (file path.now))) }
 {
-    match standing(alloc, path, told.asked, told.answers)? {
+    match stands(told, path)? {
         Some(Standing::Regular(_)) => Ok(true),
         Some(Standing::Folder | Standing::Special | Standing::Missing) | None => Ok(false),
     }
 }
 
 /// Size and time of a file, as they were answered; empty, if they were not.
-fn stamp<'a>(alloc: Global, told: &Told<'a>, path: &[u8]) -> Mem<&'a [u8]>
+fn stamp<'a>(told: &Told<'a>, path: &[u8]) -> Mem<&'a [u8]>
     ensures { IfOk result (λ it. it.now ≡ machine_of told.now (times path.now)) }
 {
-    let question = Question::Times(Vec::from_slice(alloc, path)?);
+    let question = Question::Times(Vec::from_slice(told.alloc, path)?);
     if let Some(Answer::Times(stamp)) = answer_to(&question, told.asked, told.answers) {
         return Ok(stamp.as_slice());
     }
@@ -68,38 +64,34 @@ fn stamp<'a>(alloc: Global, told: &Told<'a>, path: &[u8]) -> Mem<&'a [u8]>
 }
 
 /// A name, and size and time of its file.
-fn stamped(alloc: Global, told: &Told<'_>, name: &[u8]) -> Mem<Vec<Field>>
+fn stamped(told: &Told<'_>, name: &[u8]) -> Mem<Vec<Field>>
     ensures { IfOk result (λ row. row_of row.items ≡ said name.now ∷ said (machine_of told.now (times name.now)) ∷ []) }
 {
-    let stamp = stamp(alloc, told, name)?;
-    let mut row = Vec::new(alloc);
-    row.push(Field::Said(Vec::from_slice(alloc, name)?))?;
-    row.push(Field::Said(Vec::from_slice(alloc, stamp)?))?;
+    let stamp = stamp(told, name)?;
+    let mut row = Vec::new(told.alloc);
+    row.push(Field::Said(Vec::from_slice(told.alloc, name)?))?;
+    row.push(Field::Said(Vec::from_slice(told.alloc, stamp)?))?;
     Ok(row)
 }
 
 /// A name, and size and time of its file; nothing of a folder, or where there is nothing; none: there is what is no file.
-fn times_row(alloc: Global, told: &Told<'_>, name: &[u8]) -> Mem<Option<Vec<Field>>>
+fn times_row(told: &Told<'_>, name: &[u8]) -> Mem<Option<Vec<Field>>>
     ensures { IfOk result (λ row. option_map (λ row. row_of row.items) row ≡ times_row (machine_of told.now) name.now) }
 {
-    match standing(alloc, name, told.asked, told.answers)? {
-        Some(Standing::Regular(_)) => Ok(Some(stamped(alloc, told, name)?)),
-        Some(Standing::Folder | Standing::Missing) | None => Ok(Some(Vec::new(alloc))),
+    match stands(told, name)? {
+        Some(Standing::Regular(_)) => Ok(Some(stamped(told, name)?)),
+        Some(Standing::Folder | Standing::Missing) | None => Ok(Some(Vec::new(told.alloc))),
         Some(Standing::Special) => Ok(None),
     }
 }
 
 /// Names of files, with the size and time of each; none: there is what is no file.
-pub(crate) fn times_told(
-    alloc: Global,
-    told: &Told<'_>,
-    names: &[Vec<u8>],
-) -> Mem<Option<Vec<Field>>>
+pub(crate) fn times_told(told: &Told<'_>, names: &[Vec<u8>]) -> Mem<Option<Vec<Field>>>
     ensures { IfOk result (λ answer. option_map (λ answer. row_of answer.items) answer ≡ times_told (machine_of told.now) (words_of names.now)) }
 {
-    let mut answer = Vec::new(alloc);
+    let mut answer = Vec::new(told.alloc);
     for name in names {
-        match times_row(alloc, told, name)? {
+        match times_row(told, name)? {
             Some(mut row) => answer.append(&mut row)?,
             None => return Ok(None),
         }

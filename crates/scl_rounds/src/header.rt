@@ -4,19 +4,23 @@ ghost use Rattle.std.specs.List.{flat_map, suffix_len};
 ghost use Rattle.std.specs.Option.{option_copied, option_map};
 ghost use Rattle.scl_files.specs.Paths.{is_slash, join};
 ghost use Rattle.scl_values.specs.Words.{words_of};
+ghost use Rattle.scl_key.specs.Views.{part_of};
+ghost use Rattle.scl_lookup.specs.Keys.{said};
 ghost use Rattle.scl_lookup.specs.Questions.{file, names};
-ghost use Rattle.scl_questions.specs.Views.{row_of};
+ghost use Rattle.scl_questions.specs.Views.{field_of, row_of, rows_of};
 ghost use Rattle.scl_readings.specs.Lines.{parts};
-ghost use Rattle.scl_rounds.specs.Headers.{all_inside, any_there, behind_slashes, compiled, compiled_in, folder_of, folders, folders_by, folders_in, headers, headers_told, included_as, inside, is_folder, is_there, leading_in, named, places, places_by, unless_made};
+ghost use Rattle.scl_rounds.specs.Headers.{all_inside, any_there, behind_slashes, compiled, compiled_in, folder_of, folders, folders_by, folders_in, headers, headers_told, included_as, inside, is_folder, is_there, leading_in, named, places, places_by, run_row, run_rows, unless_made, words_told};
 ghost use Rattle.scl_rounds.specs.Shown.{marked};
-ghost use Rattle.scl_rounds.specs.Views.{key_of, machine_of};
+ghost use Rattle.scl_rounds.specs.Views.{key_in, key_of, machine_of};
 
-use crate::answer::Told;
+use crate::answer::{Told, stands, value_of};
 use crate::file::files_told;
 use crate::key::{Key, is_made};
+use crate::row::{push_all_said, push_said};
 use crate::shown::{each_once, marked, shown};
 use scl_files::path::join;
-use scl_questions::{Answer, Field, Question, Standing, answer_to, standing, value};
+use scl_key::Part;
+use scl_questions::{Answer, Field, Question, Standing, answer_to, push_text};
 use scl_readings::{Named, cut_at, files_in, leading_lines};
 use scl_text::command::{push_word, push_words};
 use scl_values::Mem;
@@ -60,12 +64,12 @@ fn push_all_leading(alloc: Global, names: &mut Vec<Vec<u8>>, texts: &[&[u8]]) ->
 }
 
 /// The first headers: those that the runs enter, and those that words name.
-fn headers(alloc: Global, told: &Told<'_>, key: &Key<'_>, searched: &[Vec<u8>]) -> Mem<Vec<Vec<u8>>>
-    ensures { IfOk result (λ names. words_of names.items ≡ headers (key_of key.now) (machine_of told.now) (words_of searched.now)) }
+fn headers(told: &Told<'_>, searched: &[Vec<u8>]) -> Mem<Vec<Vec<u8>>>
+    ensures { IfOk result (λ names. words_of names.items ≡ headers (key_in told.now) (machine_of told.now) (words_of searched.now)) }
 {
-    let mut names = Vec::new(alloc);
-    push_all_leading(alloc, &mut names, &shown(alloc, told, key)?)?;
-    push_named(alloc, &mut names, b"header", searched)?;
+    let mut names = Vec::new(told.alloc);
+    push_all_leading(told.alloc, &mut names, &shown(told)?)?;
+    push_named(told.alloc, &mut names, b"header", searched)?;
     Ok(names)
 }
 
@@ -151,43 +155,29 @@ fn push_folders_in(alloc: Global, folders: &mut Vec<Vec<u8>>, value: Option<&[u8
 }
 
 /// Appends the folders that variables name.
-fn push_folders_by(
-    alloc: Global,
-    folders: &mut Vec<Vec<u8>>,
-    told: &Told<'_>,
-    variables: &[Vec<u8>],
-) -> Mem<()>
+fn push_folders_by(folders: &mut Vec<Vec<u8>>, told: &Told<'_>, variables: &[Vec<u8>]) -> Mem<()>
     ensures { OnOk result (words_of folders.new.items ≡ words_of folders.old.items ++ folders_by (machine_of told.now) (words_of variables.now)) }
 {
     for name in variables {
-        push_folders_in(
-            alloc,
-            folders,
-            value(alloc, name, told.asked, told.answers)?,
-        )?;
+        push_folders_in(told.alloc, folders, value_of(told, name)?)?;
     }
     Ok(())
 }
 
 /// The folders that words name, those of the first headers and of the input, and those that variables name.
-fn folders(
-    alloc: Global,
-    told: &Told<'_>,
-    headers: &[Vec<u8>],
-    searched: &[Vec<u8>],
-) -> Mem<Vec<Vec<u8>>>
+fn folders(told: &Told<'_>, headers: &[Vec<u8>], searched: &[Vec<u8>]) -> Mem<Vec<Vec<u8>>>
     ensures { IfOk result (λ them. words_of them.items ≡ folders (machine_of told.now) (words_of headers.now) (words_of searched.now)) }
 {
-    let mut inputs = Vec::new(alloc);
-    push_named(alloc, &mut inputs, b"beside", searched)?;
-    let mut variables = Vec::new(alloc);
-    push_named(alloc, &mut variables, b"variable", searched)?;
-    let mut folders = Vec::new(alloc);
-    push_named(alloc, &mut folders, b"folder", searched)?;
-    push_folders_of(alloc, &mut folders, headers)?;
-    push_folders_of(alloc, &mut folders, &inputs)?;
-    push_folders_by(alloc, &mut folders, told, &variables)?;
-    each_once(alloc, folders)
+    let mut inputs = Vec::new(told.alloc);
+    push_named(told.alloc, &mut inputs, b"beside", searched)?;
+    let mut variables = Vec::new(told.alloc);
+    push_named(told.alloc, &mut variables, b"variable", searched)?;
+    let mut folders = Vec::new(told.alloc);
+    push_named(told.alloc, &mut folders, b"folder", searched)?;
+    push_folders_of(told.alloc, &mut folders, headers)?;
+    push_folders_of(told.alloc, &mut folders, &inputs)?;
+    push_folders_by(&mut folders, told, &variables)?;
+    each_once(told.alloc, folders)
 }
 
 /// Appends a header that was compiled.
@@ -274,50 +264,40 @@ fn places_by(
 }
 
 /// Names, and the files that the runs name.
-fn with_marked(
-    alloc: Global,
-    told: &Told<'_>,
-    key: &Key<'_>,
-    headers: Vec<Vec<u8>>,
-) -> Mem<Vec<Vec<u8>>>
-    ensures { IfOk result (λ names. words_of names.items ≡ words_of headers.items ++ marked (key_of key.now) (machine_of told.now)) }
+fn with_marked(told: &Told<'_>, headers: Vec<Vec<u8>>) -> Mem<Vec<Vec<u8>>>
+    ensures { IfOk result (λ names. words_of names.items ≡ words_of headers.items ++ marked (key_in told.now) (machine_of told.now)) }
 {
     let mut names = headers;
-    names.append(&mut marked(alloc, told, key)?)?;
+    names.append(&mut marked(told)?)?;
     Ok(names)
 }
 
 /// Where gcc may find what it reads in the place of the first header.
-pub(crate) fn places(
-    alloc: Global,
-    told: &Told<'_>,
-    key: &Key<'_>,
-    searched: &[Vec<u8>],
-) -> Mem<Vec<Vec<u8>>>
-    ensures { IfOk result (λ paths. words_of paths.items ≡ places (key_of key.now) (machine_of told.now) (words_of searched.now)) }
+pub(crate) fn places(told: &Told<'_>, searched: &[Vec<u8>]) -> Mem<Vec<Vec<u8>>>
+    ensures { IfOk result (λ paths. words_of paths.items ≡ places (key_in told.now) (machine_of told.now) (words_of searched.now)) }
 {
-    let headers = headers(alloc, told, key, searched)?;
-    let folders = folders(alloc, told, &headers, searched)?;
-    let names = each_once(alloc, all_included_as(alloc, &headers)?)?;
-    let sources = with_marked(alloc, told, key, headers)?;
-    places_by(alloc, key, &folders, &names, &sources)
+    let headers = headers(told, searched)?;
+    let folders = folders(told, &headers, searched)?;
+    let names = each_once(told.alloc, all_included_as(told.alloc, &headers)?)?;
+    let sources = with_marked(told, headers)?;
+    places_by(told.alloc, told.key, &folders, &names, &sources)
 }
 
 /// Whether a folder stands at a path.
-fn is_folder(alloc: Global, told: &Told<'_>, path: &[u8]) -> Mem<bool>
+pub(crate) fn is_folder(told: &Told<'_>, path: &[u8]) -> Mem<bool>
     ensures { IfOk result (λ it. it ≡ is_folder (machine_of told.now (file path.now))) }
 {
-    match standing(alloc, path, told.asked, told.answers)? {
+    match stands(told, path)? {
         Some(Standing::Folder) => Ok(true),
         Some(Standing::Regular(_) | Standing::Special | Standing::Missing) | None => Ok(false),
     }
 }
 
 /// The names in a folder, as they were answered; none, if they were not.
-fn names_in<'a>(alloc: Global, told: &Told<'a>, path: &[u8]) -> Mem<&'a [Vec<u8>]>
+fn names_in<'a>(told: &Told<'a>, path: &[u8]) -> Mem<&'a [Vec<u8>]>
     ensures { IfOk result (λ them. words_of them.now ≡ machine_of told.now (names path.now)) }
 {
-    let question = Question::Names(Vec::from_slice(alloc, path)?);
+    let question = Question::Names(Vec::from_slice(told.alloc, path)?);
     if let Some(Answer::Names(them)) = answer_to(&question, told.asked, told.answers) {
         return Ok(them.as_slice());
     }
@@ -335,60 +315,112 @@ fn push_joined(alloc: Global, paths: &mut Vec<Vec<u8>>, folder: &[u8], names: &[
 }
 
 /// Appends what is in a folder, if there is one.
-fn push_inside(alloc: Global, paths: &mut Vec<Vec<u8>>, told: &Told<'_>, path: &[u8]) -> Mem<()>
+fn push_inside(paths: &mut Vec<Vec<u8>>, told: &Told<'_>, path: &[u8]) -> Mem<()>
     ensures { OnOk result (words_of paths.new.items ≡ words_of paths.old.items ++ inside (machine_of told.now) path.now) }
 {
-    if is_folder(alloc, told, path)? {
-        push_joined(alloc, paths, path, names_in(alloc, told, path)?)?;
+    if is_folder(told, path)? {
+        push_joined(told.alloc, paths, path, names_in(told, path)?)?;
     }
     Ok(())
 }
 
 /// What is in those of these that are folders.
-pub(crate) fn all_inside(alloc: Global, told: &Told<'_>, paths: &[Vec<u8>]) -> Mem<Vec<Vec<u8>>>
+pub(crate) fn all_inside(told: &Told<'_>, paths: &[Vec<u8>]) -> Mem<Vec<Vec<u8>>>
     ensures { IfOk result (λ them. words_of them.items ≡ all_inside (machine_of told.now) (words_of paths.now)) }
 {
-    let mut them = Vec::new(alloc);
+    let mut them = Vec::new(told.alloc);
     for path in paths {
-        push_inside(alloc, &mut them, told, path)?;
+        push_inside(&mut them, told, path)?;
     }
     Ok(them)
 }
 
 /// Whether anything stands at a path.
-fn is_there(alloc: Global, told: &Told<'_>, path: &[u8]) -> Mem<bool>
+fn is_there(told: &Told<'_>, path: &[u8]) -> Mem<bool>
     ensures { IfOk result (λ it. it ≡ is_there (machine_of told.now (file path.now))) }
 {
-    match standing(alloc, path, told.asked, told.answers)? {
+    match stands(told, path)? {
         Some(Standing::Regular(_) | Standing::Folder | Standing::Special) => Ok(true),
         Some(Standing::Missing) | None => Ok(false),
     }
 }
 
-fn any_there(alloc: Global, told: &Told<'_>, paths: &[Vec<u8>]) -> Mem<bool>
+fn any_there(told: &Told<'_>, paths: &[Vec<u8>]) -> Mem<bool>
     ensures { IfOk result (λ it. it ≡ any_there (machine_of told.now) (words_of paths.now)) }
 {
     for path in paths {
-        if is_there(alloc, told, path)? {
+        if is_there(told, path)? {
             return Ok(true);
         }
     }
     Ok(false)
 }
 
-/// Nothing, if no compiled header is there. Else all places in order with what stands there, and what is in folders.
-pub(crate) fn headers_told(
-    alloc: Global,
-    told: &Told<'_>,
-    paths: &[Vec<u8>],
-) -> Mem<Option<Vec<Field>>>
-    ensures { IfOk result (λ answer. option_map (λ answer. row_of answer.items) answer ≡ headers_told (machine_of told.now) (words_of paths.now)) }
+fn said_row(alloc: Global, name: &[u8], words: &[Vec<u8>]) -> Mem<Vec<Field>>
+    ensures { IfOk result (λ row. row_of row.items ≡ map said (name.now ∷ words_of words.now)) }
 {
-    if !any_there(alloc, told, paths)? {
-        return Ok(Some(Vec::new(alloc)));
+    let mut row = Vec::new(alloc);
+    push_said(alloc, &mut row, name)?;
+    push_all_said(alloc, &mut row, words)?;
+    Ok(row)
+}
+
+/// The row of a run whole, with the words by which it asks.
+fn run_row(alloc: Global, part: &Part) -> Mem<Option<Vec<Field>>>
+    ensures { IfOk result (λ row. option_map (λ row. row_of row.items) row ≡ run_row (part_of part.now)) }
+{
+    match part {
+        Part::Run(words) => Ok(Some(said_row(alloc, b"run", words)?)),
+        Part::RunElse(words) => Ok(Some(said_row(alloc, b"run-else", words)?)),
+        Part::Is(_)
+        | Part::Output(_)
+        | Part::Directory
+        | Part::Compiler
+        | Part::Plan(_)
+        | Part::Asked(_, _)
+        | Part::Pch(_)
+        | Part::Sources
+        | Part::Times => Ok(None),
     }
-    let mut all = Vec::new(alloc);
-    push_words(alloc, &mut all, paths)?;
-    all.append(&mut all_inside(alloc, told, paths)?)?;
-    files_told(alloc, told, &all)
+}
+
+fn run_rows(alloc: Global, key: &Key<'_>) -> Mem<Vec<Vec<Field>>>
+    ensures { IfOk result (λ rows. rows_of rows.items ≡ run_rows (key_of key.now)) }
+{
+    let mut rows = Vec::new(alloc);
+    for part in key.parts {
+        if let Some(row) = run_row(alloc, part)? {
+            rows.push(row)?;
+        }
+    }
+    Ok(rows)
+}
+
+/// The words of the runs, as one text: they say of which kind each folder is.
+fn words_told(alloc: Global, key: &Key<'_>) -> Mem<Field>
+    ensures { IfOk result (λ field. field_of field ≡ words_told (key_of key.now)) }
+{
+    let mut text = Vec::new(alloc);
+    push_text(alloc, &mut text, &run_rows(alloc, key)?)?;
+    Ok(Field::Said(text))
+}
+
+/// Nothing, if no compiled header is there. Else the words of the runs, all places in order with what stands there, and what is in
+/// folders.
+pub(crate) fn headers_told(told: &Told<'_>, paths: &[Vec<u8>]) -> Mem<Option<Vec<Field>>>
+    ensures { IfOk result (λ answer. option_map (λ answer. row_of answer.items) answer ≡ headers_told (key_in told.now) (machine_of told.now) (words_of paths.now)) }
+{
+    if !any_there(told, paths)? {
+        return Ok(Some(Vec::new(told.alloc)));
+    }
+    let mut all = Vec::new(told.alloc);
+    push_words(told.alloc, &mut all, paths)?;
+    all.append(&mut all_inside(told, paths)?)?;
+    let Some(mut files) = files_told(told, &all)? else {
+        return Ok(None);
+    };
+    let mut answer = Vec::new(told.alloc);
+    answer.push(words_told(told.alloc, told.key)?)?;
+    answer.append(&mut files)?;
+    Ok(Some(answer))
 }

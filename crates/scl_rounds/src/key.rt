@@ -10,7 +10,7 @@ use scl_values::Mem;
 use std::alloc::Global;
 
 /// A key, and where its names are looked for.
-#[derive(Debug)]
+#[derive(Debug, Drop)]
 pub struct Key<'a> {
     /// The directory of the compiler.
     pub place: &'a [u8],

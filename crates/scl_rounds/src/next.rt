@@ -5,7 +5,7 @@ ghost use Rattle.scl_questions.specs.Talks.{Stage, said};
 ghost use Rattle.scl_questions.specs.Views.{questions_of, replies_of};
 ghost use Rattle.scl_rounds.specs.Answers.{rows_on};
 ghost use Rattle.scl_rounds.specs.Rounds.{rounds, stage};
-ghost use Rattle.scl_rounds.specs.Views.{key_of, next_of, said_or};
+ghost use Rattle.scl_rounds.specs.Views.{key_in, key_of, next_of, said_or};
 
 use crate::answer::Told;
 use crate::key::Key;
@@ -52,10 +52,12 @@ fn ask_round(
 {
     let before = asked.len();
     let told = Told {
+        alloc,
+        key,
         asked: asked.as_slice(),
         answers,
     };
-    let Some(questions) = questions(alloc, &told, key, phase)? else {
+    let Some(questions) = questions(&told, phase)? else {
         return Ok(Some(Next::Nothing));
     };
     ask_all(asked, questions)?;
@@ -67,13 +69,13 @@ fn ask_round(
 }
 
 /// The end, when all rounds are over.
-fn end(alloc: Global, told: &Told<'_>, key: &Key<'_>) -> Mem<Next>
-    ensures { IfOk result (λ next. next_of next ≡ said (rows_on (key_of key.now)) [] (questions_of told.now.asked.now) (replies_of told.now.answers.now)) }
+fn end(told: &Told<'_>) -> Mem<Next>
+    ensures { IfOk result (λ next. next_of next ≡ said (rows_on (key_in told.now)) [] (questions_of told.now.asked.now) (replies_of told.now.answers.now)) }
 {
     if told.answers.len() > told.asked.len() {
         return Ok(Next::Refused(told.asked.len()));
     }
-    match rows(alloc, told, key)? {
+    match rows(told)? {
         Some(rows) => Ok(Next::Found(rows)),
         None => Ok(Next::Nothing),
     }
@@ -97,8 +99,10 @@ pub fn look_up(alloc: Global, key: &Key<'_>, answers: &[Answer]) -> Mem<Next>
         }
     }
     let told = Told {
+        alloc,
+        key,
         asked: &asked,
         answers,
     };
-    end(alloc, &told, key)
+    end(&told)
 }

@@ -9,17 +9,15 @@ ghost use Rattle.scl_lookup.specs.Questions.{program};
 ghost use Rattle.scl_questions.specs.Views.{question_of, row_of, written_of};
 ghost use Rattle.scl_readings.specs.Lines.{parts};
 ghost use Rattle.scl_rounds.specs.Plans.{after_equals, after_name, asked_plan, beside_by, beside_in, called_by, called_in, cleaned, files_in_plan, if_beside, is_beside, is_in_name, is_input, is_input_at, is_name, plan_told, planned_on, program_row, programs_told, there_row, there_told, words_in};
-ghost use Rattle.scl_rounds.specs.Views.{key_of, machine_of};
+ghost use Rattle.scl_rounds.specs.Views.{key_in, key_of, machine_of};
 
-use crate::answer::Told;
+use crate::answer::{Told, stands};
 use crate::key::{Key, is_made};
 use crate::shown::{each_once, input_of};
 use scl_driver_texts::{Splitter, split};
 use scl_files::path::{join, same_path};
 use scl_key::Part;
-use scl_questions::{
-    Answer, Field, Language, Question, Standing, Written, answer_to, program, standing,
-};
+use scl_questions::{Answer, Field, Language, Question, Standing, Written, answer_to, program};
 use scl_readings::{cut_at, first_place, lines_after};
 use scl_text::command::{push_word, push_words};
 use scl_values::Mem;
@@ -36,14 +34,10 @@ pub(crate) fn plan_question(alloc: Global, words: &[Vec<u8>]) -> Mem<Question>
 }
 
 /// What the compiler wrote, if it did not fail.
-pub(crate) fn planned<'a>(
-    alloc: Global,
-    told: &Told<'a>,
-    words: &[Vec<u8>],
-) -> Mem<Option<&'a Written>>
+pub(crate) fn planned<'a>(told: &Told<'a>, words: &[Vec<u8>]) -> Mem<Option<&'a Written>>
     ensures { IfOk result (λ plan. option_map (λ it. written_of it.now) plan ≡ planned_on (machine_of told.now) (words_of words.now)) }
 {
-    let question = plan_question(alloc, words)?;
+    let question = plan_question(told.alloc, words)?;
     if let Some(Answer::Written(written)) = answer_to(&question, told.asked, told.answers) {
         if written.status == 0 {
             return Ok(Some(written));
@@ -255,23 +249,23 @@ fn summed(alloc: Global, name: &[u8], sum: &[u8]) -> Mem<Vec<Field>>
 }
 
 /// A name and the bytes of its file; nothing of a folder, or where there is nothing; none: there is what is no file.
-fn there_row(alloc: Global, told: &Told<'_>, name: &[u8]) -> Mem<Option<Vec<Field>>>
+fn there_row(told: &Told<'_>, name: &[u8]) -> Mem<Option<Vec<Field>>>
     ensures { IfOk result (λ row. option_map (λ row. row_of row.items) row ≡ there_row (machine_of told.now) name.now) }
 {
-    match standing(alloc, name, told.asked, told.answers)? {
-        Some(Standing::Regular(sum)) => Ok(Some(summed(alloc, name, sum)?)),
-        Some(Standing::Folder | Standing::Missing) | None => Ok(Some(Vec::new(alloc))),
+    match stands(told, name)? {
+        Some(Standing::Regular(sum)) => Ok(Some(summed(told.alloc, name, sum)?)),
+        Some(Standing::Folder | Standing::Missing) | None => Ok(Some(Vec::new(told.alloc))),
         Some(Standing::Special) => Ok(None),
     }
 }
 
 /// The files of these names that are there; none: there is what is no file.
-fn there_told(alloc: Global, told: &Told<'_>, names: &[Vec<u8>]) -> Mem<Option<Vec<Field>>>
+fn there_told(told: &Told<'_>, names: &[Vec<u8>]) -> Mem<Option<Vec<Field>>>
     ensures { IfOk result (λ answer. option_map (λ answer. row_of answer.items) answer ≡ there_told (machine_of told.now) (words_of names.now)) }
 {
-    let mut answer = Vec::new(alloc);
+    let mut answer = Vec::new(told.alloc);
     for name in names {
-        match there_row(alloc, told, name)? {
+        match there_row(told, name)? {
             Some(mut row) => answer.append(&mut row)?,
             None => return Ok(None),
         }
@@ -280,45 +274,35 @@ fn there_told(alloc: Global, told: &Told<'_>, names: &[Vec<u8>]) -> Mem<Option<V
 }
 
 /// A name, and the sum of its program, if there is one.
-fn program_row(alloc: Global, told: &Told<'_>, name: &[u8]) -> Mem<Vec<Field>>
+fn program_row(told: &Told<'_>, name: &[u8]) -> Mem<Vec<Field>>
     ensures { IfOk result (λ row. row_of row.items ≡ program_row name.now (machine_of told.now (program name.now))) }
 {
-    match program(alloc, name, told.asked, told.answers)? {
-        Some(it) => summed(alloc, name, &it.sum),
-        None => Ok(Vec::new(alloc)),
+    match program(told.alloc, name, told.asked, told.answers)? {
+        Some(it) => summed(told.alloc, name, &it.sum),
+        None => Ok(Vec::new(told.alloc)),
     }
 }
 
-fn push_programs_told(
-    alloc: Global,
-    answer: &mut Vec<Field>,
-    told: &Told<'_>,
-    names: &[Vec<u8>],
-) -> Mem<()>
+fn push_programs_told(answer: &mut Vec<Field>, told: &Told<'_>, names: &[Vec<u8>]) -> Mem<()>
     ensures { OnOk result (row_of answer.new.items ≡ row_of answer.old.items ++ programs_told (machine_of told.now) (words_of names.now)) }
 {
     for name in names {
-        answer.append(&mut program_row(alloc, told, name)?)?;
+        answer.append(&mut program_row(told, name)?)?;
     }
     Ok(())
 }
 
 /// What is hashed of a plan; none: it names what is no file.
-pub(crate) fn plan_told(
-    alloc: Global,
-    told: &Told<'_>,
-    key: &Key<'_>,
-    text: &[u8],
-) -> Mem<Option<Vec<Field>>>
-    ensures { IfOk result (λ answer. option_map (λ answer. row_of answer.items) answer ≡ plan_told (key_of key.now) (machine_of told.now) text.now) }
+pub(crate) fn plan_told(told: &Told<'_>, text: &[u8]) -> Mem<Option<Vec<Field>>>
+    ensures { IfOk result (λ answer. option_map (λ answer. row_of answer.items) answer ≡ plan_told (key_in told.now) (machine_of told.now) text.now) }
 {
-    let files = files_in_plan(alloc, key, text)?;
-    let Some(mut there) = there_told(alloc, told, &files)? else {
+    let files = files_in_plan(told.alloc, told.key, text)?;
+    let Some(mut there) = there_told(told, &files)? else {
         return Ok(None);
     };
-    let mut answer = Vec::new(alloc);
-    answer.push(Field::Said(cleaned(alloc, text)?))?;
+    let mut answer = Vec::new(told.alloc);
+    answer.push(Field::Said(cleaned(told.alloc, text)?))?;
     answer.append(&mut there)?;
-    push_programs_told(alloc, &mut answer, told, &called_in(alloc, text)?)?;
+    push_programs_told(&mut answer, told, &called_in(told.alloc, text)?)?;
     Ok(Some(answer))
 }

@@ -1,6 +1,6 @@
 //! What a key asks of a machine, round by round.
 ghost use Rattle.std.specs.Prelude.{◌≡◌, ◌++◌, ◌∷◌, [], map, codes, IfOk, OnOk};
-ghost use Rattle.std.specs.Option.{option_copied, option_map, option_to_list};
+ghost use Rattle.std.specs.Option.{option_copied, option_map};
 ghost use Rattle.scl_values.specs.Words.{words_of};
 ghost use Rattle.scl_key.specs.declared.part.Ask.TheVariants as asks;
 ghost use Rattle.scl_key.specs.Views.{part_of};
@@ -8,11 +8,12 @@ ghost use Rattle.scl_lookup.specs.Questions.{env, file, program};
 ghost use Rattle.scl_questions.specs.Views.{question_of, questions_of};
 ghost use Rattle.scl_rounds.specs.Headers.{all_inside, named, places};
 ghost use Rattle.scl_rounds.specs.Plans.{asked_plan, planned_on};
-ghost use Rattle.scl_rounds.specs.Rounds.{asked_in, asked_run, behind_said, called, called_by_plan, detail_asked, detail_by, details_asked, fifth, fifth_asked, first, first_asked, fourth, loaded_by, needed, needed_asked, needed_by, second, sixth, stage, third};
-ghost use Rattle.scl_rounds.specs.Views.{key_of, machine_of};
+ghost use Rattle.scl_rounds.specs.Rounds.{asked_in, asked_run, behind_said, called, called_by_plan, detail_asked, detail_question, details_asked, fifth, fifth_asked, first, first_asked, fourth, has_detail, loaded_by, needed, needed_asked, needed_by, second, sixth, stage, third};
+ghost use Rattle.scl_rounds.specs.Views.{key_in, key_of, machine_of};
 
 use crate::answer::{Told, said_directory};
-use crate::header::{all_inside, places, push_named};
+use crate::file::is_regular;
+use crate::header::{all_inside, is_folder, places, push_named};
 use crate::key::{Key, is_made};
 use crate::plan::{called_in, files_in_plan, plan_question, planned};
 use crate::run::{has_failed, loaded_in};
@@ -20,7 +21,7 @@ use crate::shown::{all_sources, marked, shown, shown_by, unmarked};
 use crate::vain::is_vain;
 use scl_key::{Ask, Part};
 use scl_patterns::is_shown;
-use scl_questions::{Language, Question, Standing, standing};
+use scl_questions::{Language, Question};
 use scl_text::command::copy_words;
 use scl_values::Mem;
 use std::alloc::Global;
@@ -182,22 +183,16 @@ fn push_plan(alloc: Global, questions: &mut Vec<Question>, words: &[Vec<u8>]) ->
 }
 
 /// Appends what the second round asks for a part.
-fn push_second(
-    alloc: Global,
-    questions: &mut Vec<Question>,
-    told: &Told<'_>,
-    key: &Key<'_>,
-    part: &Part,
-) -> Mem<()>
-    ensures { OnOk result (questions_of questions.new.items ≡ questions_of questions.old.items ++ second (key_of key.now) (machine_of told.now) (part_of part.now)) }
+fn push_second(questions: &mut Vec<Question>, told: &Told<'_>, part: &Part) -> Mem<()>
+    ensures { OnOk result (questions_of questions.new.items ≡ questions_of questions.old.items ++ second (key_in told.now) (machine_of told.now) (part_of part.now)) }
 {
     match part {
         Part::Directory => {
-            let name = said_directory(alloc, told)?;
-            push_real(alloc, questions, key.place, name)
+            let name = said_directory(told)?;
+            push_real(told.alloc, questions, told.key.place, name)
         }
-        Part::Plan(words) => push_plan(alloc, questions, words),
-        Part::Run(words) => push_run(alloc, questions, words),
+        Part::Plan(words) => push_plan(told.alloc, questions, words),
+        Part::Run(words) => push_run(told.alloc, questions, words),
         Part::Is(_)
         | Part::Output(_)
         | Part::Compiler
@@ -210,18 +205,12 @@ fn push_second(
 }
 
 /// Appends what the third round asks for a part.
-fn push_third(
-    alloc: Global,
-    questions: &mut Vec<Question>,
-    told: &Told<'_>,
-    key: &Key<'_>,
-    part: &Part,
-) -> Mem<()>
-    ensures { OnOk result (questions_of questions.new.items ≡ questions_of questions.old.items ++ third (key_of key.now) (machine_of told.now) (part_of part.now)) }
+fn push_third(questions: &mut Vec<Question>, told: &Told<'_>, part: &Part) -> Mem<()>
+    ensures { OnOk result (questions_of questions.new.items ≡ questions_of questions.old.items ++ third (key_in told.now) (machine_of told.now) (part_of part.now)) }
 {
     if let Part::RunElse(words) = part {
-        if has_failed(alloc, told, key)? {
-            push_run(alloc, questions, words)?;
+        if has_failed(told)? {
+            push_run(told.alloc, questions, words)?;
         }
     }
     Ok(())
@@ -238,36 +227,31 @@ fn loaded_by(alloc: Global, text: Option<&[u8]>) -> Mem<Vec<Vec<u8>>>
 }
 
 /// The files that a plan names.
-fn needed_by_plan(
-    alloc: Global,
-    told: &Told<'_>,
-    key: &Key<'_>,
-    words: &[Vec<u8>],
-) -> Mem<Vec<Vec<u8>>>
-    ensures { IfOk result (λ names. words_of names.items ≡ needed_by (key_of key.now) (planned_on (machine_of told.now) (words_of words.now))) }
+fn needed_by_plan(told: &Told<'_>, words: &[Vec<u8>]) -> Mem<Vec<Vec<u8>>>
+    ensures { IfOk result (λ names. words_of names.items ≡ needed_by (key_in told.now) (planned_on (machine_of told.now) (words_of words.now))) }
 {
-    match planned(alloc, told, words)? {
-        Some(written) => files_in_plan(alloc, key, &written.messages),
-        None => Ok(Vec::new(alloc)),
+    match planned(told, words)? {
+        Some(written) => files_in_plan(told.alloc, told.key, &written.messages),
+        None => Ok(Vec::new(told.alloc)),
     }
 }
 
 /// The programs that a plan calls.
-fn called_by_plan(alloc: Global, told: &Told<'_>, words: &[Vec<u8>]) -> Mem<Vec<Vec<u8>>>
+fn called_by_plan(told: &Told<'_>, words: &[Vec<u8>]) -> Mem<Vec<Vec<u8>>>
     ensures { IfOk result (λ names. words_of names.items ≡ called_by_plan (planned_on (machine_of told.now) (words_of words.now))) }
 {
-    match planned(alloc, told, words)? {
-        Some(written) => called_in(alloc, &written.messages),
-        None => Ok(Vec::new(alloc)),
+    match planned(told, words)? {
+        Some(written) => called_in(told.alloc, &written.messages),
+        None => Ok(Vec::new(told.alloc)),
     }
 }
 
 /// The programs that a part calls.
-fn called(alloc: Global, told: &Told<'_>, part: &Part) -> Mem<Vec<Vec<u8>>>
+fn called(told: &Told<'_>, part: &Part) -> Mem<Vec<Vec<u8>>>
     ensures { IfOk result (λ names. words_of names.items ≡ called (machine_of told.now) (part_of part.now)) }
 {
     match part {
-        Part::Plan(words) => called_by_plan(alloc, told, words),
+        Part::Plan(words) => called_by_plan(told, words),
         Part::Is(_)
         | Part::Output(_)
         | Part::Directory
@@ -277,54 +261,47 @@ fn called(alloc: Global, told: &Told<'_>, part: &Part) -> Mem<Vec<Vec<u8>>>
         | Part::RunElse(_)
         | Part::Pch(_)
         | Part::Sources
-        | Part::Times => Ok(Vec::new(alloc)),
+        | Part::Times => Ok(Vec::new(told.alloc)),
     }
 }
 
 /// The sources, if a text has the pattern.
-fn needed_if_shown(
-    alloc: Global,
-    told: &Told<'_>,
-    key: &Key<'_>,
-    pattern: &[u8],
-) -> Mem<Vec<Vec<u8>>>
-    ensures { IfOk result (λ names. words_of names.items ≡ needed_asked (key_of key.now) (machine_of told.now) asks.SourcesIfShown pattern.now) }
+fn needed_if_shown(told: &Told<'_>, pattern: &[u8]) -> Mem<Vec<Vec<u8>>>
+    ensures { IfOk result (λ names. words_of names.items ≡ needed_asked (key_in told.now) (machine_of told.now) asks.SourcesIfShown pattern.now) }
 {
-    match is_shown(alloc, pattern, &shown(alloc, told, key)?)? {
-        Some(true) => all_sources(alloc, told, key),
-        Some(false) | None => Ok(Vec::new(alloc)),
+    match is_shown(told.alloc, pattern, &shown(told)?)? {
+        Some(true) => all_sources(told),
+        Some(false) | None => Ok(Vec::new(told.alloc)),
     }
 }
 
 /// The files that are needed by what is asked of a name.
-fn needed_asked(
-    alloc: Global,
-    told: &Told<'_>,
-    key: &Key<'_>,
-    ask: Ask,
-    name: &[u8],
-) -> Mem<Vec<Vec<u8>>>
-    ensures { IfOk result (λ names. words_of names.items ≡ needed_asked (key_of key.now) (machine_of told.now) ask name.now) }
+fn needed_asked(told: &Told<'_>, ask: Ask, name: &[u8]) -> Mem<Vec<Vec<u8>>>
+    ensures { IfOk result (λ names. words_of names.items ≡ needed_asked (key_in told.now) (machine_of told.now) ask name.now) }
 {
     match ask {
-        Ask::SourcesIfShown => needed_if_shown(alloc, told, key, name),
-        Ask::RefuseIfShown => unmarked(alloc, told, key),
-        Ask::Env | Ask::Unset | Ask::File | Ask::Maybe | Ask::Regular => { Ok(Vec::new(alloc)) }
+        Ask::SourcesIfShown => needed_if_shown(told, name),
+        Ask::RefuseIfShown => unmarked(told),
+        Ask::Env | Ask::Unset | Ask::File | Ask::Maybe | Ask::Regular => {
+            Ok(Vec::new(told.alloc))
+        }
     }
 }
 
 /// The files that a part needs, by what the runs wrote.
-fn needed(alloc: Global, told: &Told<'_>, key: &Key<'_>, part: &Part) -> Mem<Vec<Vec<u8>>>
-    ensures { IfOk result (λ names. words_of names.items ≡ needed (key_of key.now) (machine_of told.now) (part_of part.now)) }
+fn needed(told: &Told<'_>, part: &Part) -> Mem<Vec<Vec<u8>>>
+    ensures { IfOk result (λ names. words_of names.items ≡ needed (key_in told.now) (machine_of told.now) (part_of part.now)) }
 {
     match part {
-        Part::Run(_) | Part::RunElse(_) => loaded_by(alloc, shown_by(alloc, told, key, part)?),
-        Part::Plan(words) => needed_by_plan(alloc, told, key, words),
-        Part::Asked(ask, name) => needed_asked(alloc, told, key, *ask, name),
-        Part::Sources => all_sources(alloc, told, key),
-        Part::Times => marked(alloc, told, key),
-        Part::Pch(searched) => places(alloc, told, key, searched),
-        Part::Is(_) | Part::Output(_) | Part::Directory | Part::Compiler => Ok(Vec::new(alloc)),
+        Part::Run(_) | Part::RunElse(_) => loaded_by(told.alloc, shown_by(told, part)?),
+        Part::Plan(words) => needed_by_plan(told, words),
+        Part::Asked(ask, name) => needed_asked(told, *ask, name),
+        Part::Sources => all_sources(told),
+        Part::Times => marked(told),
+        Part::Pch(searched) => places(told, searched),
+        Part::Is(_) | Part::Output(_) | Part::Directory | Part::Compiler => Ok(Vec::new(
+            told.alloc,
+        )),
     }
 }
 
@@ -349,40 +326,51 @@ fn push_programs(alloc: Global, questions: &mut Vec<Question>, names: &[Vec<u8>]
 }
 
 /// Appends what the fourth round asks for a part.
-fn push_fourth(
-    alloc: Global,
-    questions: &mut Vec<Question>,
-    told: &Told<'_>,
-    key: &Key<'_>,
-    part: &Part,
-) -> Mem<()>
-    ensures { OnOk result (questions_of questions.new.items ≡ questions_of questions.old.items ++ fourth (key_of key.now) (machine_of told.now) (part_of part.now)) }
+fn push_fourth(questions: &mut Vec<Question>, told: &Told<'_>, part: &Part) -> Mem<()>
+    ensures { OnOk result (questions_of questions.new.items ≡ questions_of questions.old.items ++ fourth (key_in told.now) (machine_of told.now) (part_of part.now)) }
 {
-    push_programs(alloc, questions, &called(alloc, told, part)?)?;
-    push_files(alloc, questions, &needed(alloc, told, key, part)?)
+    push_programs(told.alloc, questions, &called(told, part)?)?;
+    push_files(told.alloc, questions, &needed(told, part)?)
 }
 
-/// What is asked of what stands at a path, if there is a file, or a folder.
-fn detail_of(alloc: Global, told: &Told<'_>, detail: Detail, path: &[u8]) -> Mem<Option<Question>>
-    ensures { IfOk result (λ question. option_to_list (option_map question_of question) ≡ detail_asked detail (machine_of told.now) path.now) }
+/// Whether a file stands at a path, or a folder, as the detail wants it.
+fn has_detail(told: &Told<'_>, detail: Detail, path: &[u8]) -> Mem<bool>
+    ensures { IfOk result (λ it. it ≡ has_detail detail (machine_of told.now (file path.now))) }
 {
-    match (detail, standing(alloc, path, told.asked, told.answers)?) {
-        (Detail::Times, Some(Standing::Regular(_))) => {
-            Ok(Some(Question::Times(Vec::from_slice(alloc, path)?)))
-        }
-        (Detail::Content, Some(Standing::Regular(_))) => {
-            Ok(Some(Question::Bytes(Vec::from_slice(alloc, path)?)))
-        }
-        (Detail::Names, Some(Standing::Folder)) => {
-            Ok(Some(Question::Names(Vec::from_slice(alloc, path)?)))
-        }
-        (Detail::Times | Detail::Content | Detail::Names, _) => Ok(None),
+    match detail {
+        Detail::Times | Detail::Content => is_regular(told, path),
+        Detail::Names => is_folder(told, path),
     }
+}
+
+fn detail_question(alloc: Global, detail: Detail, path: &[u8]) -> Mem<Question>
+    ensures { IfOk result (λ question. question_of question ≡ detail_question detail path.now) }
+{
+    let path = Vec::from_slice(alloc, path)?;
+    match detail {
+        Detail::Times => Ok(Question::Times(path)),
+        Detail::Content => Ok(Question::Bytes(path)),
+        Detail::Names => Ok(Question::Names(path)),
+    }
+}
+
+/// Appends what is asked of what stands at a path, if there is a file, or a folder.
+fn push_detail(
+    questions: &mut Vec<Question>,
+    told: &Told<'_>,
+    detail: Detail,
+    path: &[u8],
+) -> Mem<()>
+    ensures { OnOk result (questions_of questions.new.items ≡ questions_of questions.old.items ++ detail_asked detail (machine_of told.now) path.now) }
+{
+    if has_detail(told, detail, path)? {
+        questions.push(detail_question(told.alloc, detail, path)?)?;
+    }
+    Ok(())
 }
 
 /// Appends what is asked of those of these that are files, or folders.
 fn push_details(
-    alloc: Global,
     questions: &mut Vec<Question>,
     told: &Told<'_>,
     detail: Detail,
@@ -391,27 +379,19 @@ fn push_details(
     ensures { OnOk result (questions_of questions.new.items ≡ questions_of questions.old.items ++ details_asked detail (machine_of told.now) (words_of paths.now)) }
 {
     for path in paths {
-        if let Some(question) = detail_of(alloc, told, detail, path)? {
-            questions.push(question)?;
-        }
+        push_detail(questions, told, detail, path)?;
     }
     Ok(())
 }
 
 /// Appends what the fifth round asks for what is asked of a name.
-fn push_fifth_asked(
-    alloc: Global,
-    questions: &mut Vec<Question>,
-    told: &Told<'_>,
-    key: &Key<'_>,
-    ask: Ask,
-) -> Mem<()>
-    ensures { OnOk result (questions_of questions.new.items ≡ questions_of questions.old.items ++ fifth_asked (key_of key.now) (machine_of told.now) ask) }
+fn push_fifth_asked(questions: &mut Vec<Question>, told: &Told<'_>, ask: Ask) -> Mem<()>
+    ensures { OnOk result (questions_of questions.new.items ≡ questions_of questions.old.items ++ fifth_asked (key_in told.now) (machine_of told.now) ask) }
 {
     match ask {
         Ask::RefuseIfShown => {
-            let inputs = unmarked(alloc, told, key)?;
-            push_details(alloc, questions, told, Detail::Content, &inputs)
+            let inputs = unmarked(told)?;
+            push_details(questions, told, Detail::Content, &inputs)
         }
         Ask::Env | Ask::Unset | Ask::File | Ask::Maybe | Ask::Regular | Ask::SourcesIfShown => Ok(
             (),
@@ -420,24 +400,18 @@ fn push_fifth_asked(
 }
 
 /// Appends what the fifth round asks for a part.
-fn push_fifth(
-    alloc: Global,
-    questions: &mut Vec<Question>,
-    told: &Told<'_>,
-    key: &Key<'_>,
-    part: &Part,
-) -> Mem<()>
-    ensures { OnOk result (questions_of questions.new.items ≡ questions_of questions.old.items ++ fifth (key_of key.now) (machine_of told.now) (part_of part.now)) }
+fn push_fifth(questions: &mut Vec<Question>, told: &Told<'_>, part: &Part) -> Mem<()>
+    ensures { OnOk result (questions_of questions.new.items ≡ questions_of questions.old.items ++ fifth (key_in told.now) (machine_of told.now) (part_of part.now)) }
 {
     match part {
-        Part::Asked(ask, _) => push_fifth_asked(alloc, questions, told, key, *ask),
+        Part::Asked(ask, _) => push_fifth_asked(questions, told, *ask),
         Part::Pch(searched) => {
-            let paths = places(alloc, told, key, searched)?;
-            push_details(alloc, questions, told, Detail::Names, &paths)
+            let paths = places(told, searched)?;
+            push_details(questions, told, Detail::Names, &paths)
         }
         Part::Times => {
-            let files = marked(alloc, told, key)?;
-            push_details(alloc, questions, told, Detail::Times, &files)
+            let files = marked(told)?;
+            push_details(questions, told, Detail::Times, &files)
         }
         Part::Is(_)
         | Part::Output(_)
@@ -451,43 +425,32 @@ fn push_fifth(
 }
 
 /// Appends what the sixth round asks for a part.
-fn push_sixth(
-    alloc: Global,
-    questions: &mut Vec<Question>,
-    told: &Told<'_>,
-    key: &Key<'_>,
-    part: &Part,
-) -> Mem<()>
-    ensures { OnOk result (questions_of questions.new.items ≡ questions_of questions.old.items ++ sixth (key_of key.now) (machine_of told.now) (part_of part.now)) }
+fn push_sixth(questions: &mut Vec<Question>, told: &Told<'_>, part: &Part) -> Mem<()>
+    ensures { OnOk result (questions_of questions.new.items ≡ questions_of questions.old.items ++ sixth (key_in told.now) (machine_of told.now) (part_of part.now)) }
 {
     if let Part::Pch(searched) = part {
-        let paths = places(alloc, told, key, searched)?;
-        push_files(alloc, questions, &all_inside(alloc, told, &paths)?)?;
+        let paths = places(told, searched)?;
+        push_files(told.alloc, questions, &all_inside(told, &paths)?)?;
     }
     Ok(())
 }
 
 /// What a round asks, by the answers of those before it; none: nothing may be kept.
-pub(crate) fn questions(
-    alloc: Global,
-    told: &Told<'_>,
-    key: &Key<'_>,
-    phase: Phase,
-) -> Mem<Option<Vec<Question>>>
-    ensures { IfOk result (λ it. option_map (λ questions. questions_of questions.items) it ≡ stage (key_of key.now) phase (machine_of told.now)) }
+pub(crate) fn questions(told: &Told<'_>, phase: Phase) -> Mem<Option<Vec<Question>>>
+    ensures { IfOk result (λ it. option_map (λ questions. questions_of questions.items) it ≡ stage (key_in told.now) phase (machine_of told.now)) }
 {
-    if is_vain(alloc, told, key, phase)? {
+    if is_vain(told, phase)? {
         return Ok(None);
     }
-    let mut questions = Vec::new(alloc);
-    for part in key.parts {
+    let mut questions = Vec::new(told.alloc);
+    for part in told.key.parts {
         match phase {
-            Phase::First => push_first(alloc, &mut questions, key, part)?,
-            Phase::Runs => push_second(alloc, &mut questions, told, key, part)?,
-            Phase::RunsElse => push_third(alloc, &mut questions, told, key, part)?,
-            Phase::Files => push_fourth(alloc, &mut questions, told, key, part)?,
-            Phase::Details => push_fifth(alloc, &mut questions, told, key, part)?,
-            Phase::Inside => push_sixth(alloc, &mut questions, told, key, part)?,
+            Phase::First => push_first(told.alloc, &mut questions, told.key, part)?,
+            Phase::Runs => push_second(&mut questions, told, part)?,
+            Phase::RunsElse => push_third(&mut questions, told, part)?,
+            Phase::Files => push_fourth(&mut questions, told, part)?,
+            Phase::Details => push_fifth(&mut questions, told, part)?,
+            Phase::Inside => push_sixth(&mut questions, told, part)?,
         }
     }
     Ok(Some(questions))

@@ -7,17 +7,16 @@ ghost use Rattle.scl_key.specs.Views.{output_of, part_of};
 ghost use Rattle.scl_lookup.specs.Keys.{said};
 ghost use Rattle.scl_questions.specs.Views.{row_of, rows_of};
 ghost use Rattle.scl_rounds.specs.Answers.{row_on, rows_on};
-ghost use Rattle.scl_rounds.specs.Views.{key_of, machine_of};
+ghost use Rattle.scl_rounds.specs.Views.{key_in, machine_of};
 
 use crate::answer::{Told, answer};
-use crate::key::Key;
 use scl_key::{Ask, Output, Part};
 use scl_questions::Field;
 use scl_values::Mem;
 use std::alloc::Global;
 
 /// Appends a text.
-fn push_said(alloc: Global, row: &mut Vec<Field>, text: &[u8]) -> Mem<()>
+pub(crate) fn push_said(alloc: Global, row: &mut Vec<Field>, text: &[u8]) -> Mem<()>
     ensures { OnOk result (row_of row.new.items ≡ row_of row.old.items ++ said text.now ∷ []) }
 {
     row.push(Field::Said(Vec::from_slice(alloc, text)?))?;
@@ -25,7 +24,7 @@ fn push_said(alloc: Global, row: &mut Vec<Field>, text: &[u8]) -> Mem<()>
 }
 
 /// Appends texts.
-fn push_all_said(alloc: Global, row: &mut Vec<Field>, texts: &[Vec<u8>]) -> Mem<()>
+pub(crate) fn push_all_said(alloc: Global, row: &mut Vec<Field>, texts: &[Vec<u8>]) -> Mem<()>
     ensures { OnOk result (row_of row.new.items ≡ row_of row.old.items ++ map said (words_of texts.now)) }
 {
     for text in texts {
@@ -83,26 +82,26 @@ fn push_hashed(alloc: Global, row: &mut Vec<Field>, part: &Part) -> Mem<()>
 }
 
 /// The row of a part, if there is one.
-fn row(alloc: Global, told: &Told<'_>, key: &Key<'_>, part: &Part) -> Mem<Option<Vec<Field>>>
-    ensures { IfOk result (λ row. option_map (λ row. row_of row.items) row ≡ row_on (key_of key.now) (machine_of told.now) (part_of part.now)) }
+fn row(told: &Told<'_>, part: &Part) -> Mem<Option<Vec<Field>>>
+    ensures { IfOk result (λ row. option_map (λ row. row_of row.items) row ≡ row_on (key_in told.now) (machine_of told.now) (part_of part.now)) }
 {
-    let Some(mut answer) = answer(alloc, told, key, part)? else {
+    let Some(mut answer) = answer(told, part)? else {
         return Ok(None);
     };
-    let mut row = Vec::new(alloc);
-    push_hashed(alloc, &mut row, part)?;
+    let mut row = Vec::new(told.alloc);
+    push_hashed(told.alloc, &mut row, part)?;
     row.append(&mut answer)?;
     Ok(Some(row))
 }
 
 /// The rows of the parts, if each has one.
 #[tactic(auto, using(crate::proofs::CodeLemmas::row_there))]
-pub(crate) fn rows(alloc: Global, told: &Told<'_>, key: &Key<'_>) -> Mem<Option<Vec<Vec<Field>>>>
-    ensures { IfOk result (λ rows. option_map (λ rows. rows_of rows.items) rows ≡ rows_on (key_of key.now) (machine_of told.now)) }
+pub(crate) fn rows(told: &Told<'_>) -> Mem<Option<Vec<Vec<Field>>>>
+    ensures { IfOk result (λ rows. option_map (λ rows. rows_of rows.items) rows ≡ rows_on (key_in told.now) (machine_of told.now)) }
 {
-    let mut rows = Vec::new(alloc);
-    for part in key.parts {
-        match row(alloc, told, key, part)? {
+    let mut rows = Vec::new(told.alloc);
+    for part in told.key.parts {
+        match row(told, part)? {
             Some(row) => rows.push(row)?,
             None => return Ok(None),
         }

@@ -6,7 +6,7 @@ ghost use Rattle.scl_key.specs.Views.{part_of};
 ghost use Rattle.scl_lookup.specs.Keys.{ran_on};
 ghost use Rattle.scl_questions.specs.Views.{row_of, written_of};
 ghost use Rattle.scl_rounds.specs.Runs.{fails, has_failed, has_marker, is_else, loaded_in, may_fail, names_sources, no_text, outputs_told, run_told, written_told};
-ghost use Rattle.scl_rounds.specs.Views.{key_of, machine_of};
+ghost use Rattle.scl_rounds.specs.Views.{key_in, key_of, machine_of};
 
 use crate::answer::Told;
 use crate::file::files_told;
@@ -19,10 +19,10 @@ use scl_values::Mem;
 use std::alloc::Global;
 
 /// What a run wrote, if it did not fail.
-pub(crate) fn ran<'a>(alloc: Global, told: &Told<'a>, words: &[Vec<u8>]) -> Mem<Option<&'a Written>>
+pub(crate) fn ran<'a>(told: &Told<'a>, words: &[Vec<u8>]) -> Mem<Option<&'a Written>>
     ensures { IfOk result (λ ran. option_map (λ it. written_of it.now) ran ≡ ran_on (machine_of told.now) (words_of words.now)) }
 {
-    let question = Question::Run(Language::Own, copy_words(alloc, words)?);
+    let question = Question::Run(Language::Own, copy_words(told.alloc, words)?);
     if let Some(Answer::Written(written)) = answer_to(&question, told.asked, told.answers) {
         if written.status == 0 {
             return Ok(Some(written));
@@ -43,11 +43,11 @@ pub(crate) fn may_fail(key: &Key<'_>) -> bool
     false
 }
 
-fn fails(alloc: Global, told: &Told<'_>, part: &Part) -> Mem<bool>
+fn fails(told: &Told<'_>, part: &Part) -> Mem<bool>
     ensures { IfOk result (λ it. it ≡ fails (machine_of told.now) (part_of part.now)) }
 {
     match part {
-        Part::Run(words) => Ok(ran(alloc, told, words)?.is_none()),
+        Part::Run(words) => Ok(ran(told, words)?.is_none()),
         Part::Is(_)
         | Part::Output(_)
         | Part::Directory
@@ -62,11 +62,11 @@ fn fails(alloc: Global, told: &Told<'_>, part: &Part) -> Mem<bool>
 }
 
 /// Whether a run failed, so that the others are needed.
-pub(crate) fn has_failed(alloc: Global, told: &Told<'_>, key: &Key<'_>) -> Mem<bool>
-    ensures { IfOk result (λ it. it ≡ has_failed (key_of key.now) (machine_of told.now)) }
+pub(crate) fn has_failed(told: &Told<'_>) -> Mem<bool>
+    ensures { IfOk result (λ it. it ≡ has_failed (key_in told.now) (machine_of told.now)) }
 {
-    for part in key.parts {
-        if fails(alloc, told, part)? {
+    for part in told.key.parts {
+        if fails(told, part)? {
             return Ok(true);
         }
     }
@@ -112,17 +112,17 @@ fn outputs_told(alloc: Global, written: &Written) -> Mem<Vec<Field>>
 
 /// The outputs of a run, and the headers that its text loads; nothing may be kept if the text hides the sources, or a header is
 /// no file.
-fn written_told(alloc: Global, told: &Told<'_>, written: &Written) -> Mem<Option<Vec<Field>>>
+fn written_told(told: &Told<'_>, written: &Written) -> Mem<Option<Vec<Field>>>
     ensures { IfOk result (λ answer. option_map (λ answer. row_of answer.items) answer ≡ written_told (machine_of told.now) (written_of written.now)) }
 {
-    if !names_sources(alloc, &written.output)? {
+    if !names_sources(told.alloc, &written.output)? {
         return Ok(None);
     }
-    let loaded = loaded_in(alloc, &written.output)?;
-    let Some(mut headers) = files_told(alloc, told, &loaded)? else {
+    let loaded = loaded_in(told.alloc, &written.output)?;
+    let Some(mut headers) = files_told(told, &loaded)? else {
         return Ok(None);
     };
-    let mut answer = outputs_told(alloc, written)?;
+    let mut answer = outputs_told(told.alloc, written)?;
     answer.append(&mut headers)?;
     Ok(Some(answer))
 }
@@ -138,7 +138,6 @@ pub(crate) fn no_text(alloc: Global) -> Mem<Vec<Field>>
 
 /// What a run wrote, or that it failed, if it may fail.
 pub(crate) fn run_told(
-    alloc: Global,
     told: &Told<'_>,
     ran: Option<&Written>,
     may_fail: bool,
@@ -146,8 +145,8 @@ pub(crate) fn run_told(
     ensures { IfOk result (λ answer. option_map (λ answer. row_of answer.items) answer ≡ run_told (machine_of told.now) may_fail (option_map (λ it. written_of it.now) ran.entry)) }
 {
     match ran {
-        Some(written) => written_told(alloc, told, written),
-        None if may_fail => Ok(Some(no_text(alloc)?)),
+        Some(written) => written_told(told, written),
+        None if may_fail => Ok(Some(no_text(told.alloc)?)),
         None => Ok(None),
     }
 }

@@ -7,7 +7,7 @@ ghost use Rattle.scl_values.specs.Words.{words_of};
 ghost use Rattle.scl_key.specs.Views.{part_of, parts_of};
 ghost use Rattle.scl_lookup.specs.Questions.{bytes};
 ghost use Rattle.scl_rounds.specs.Shown.{all_sources, content_at, each_once, input_in, input_of, marked, marked_in, searched, shown, shown_by, text_on, unmarked, with_name};
-ghost use Rattle.scl_rounds.specs.Views.{key_of, machine_of};
+ghost use Rattle.scl_rounds.specs.Views.{key_in, machine_of};
 
 use crate::answer::Told;
 use crate::file::is_regular;
@@ -20,29 +20,24 @@ use scl_values::Mem;
 use std::alloc::Global;
 
 /// What a run wrote to standard output, if it did not fail.
-fn text<'a>(alloc: Global, told: &Told<'a>, words: &[Vec<u8>]) -> Mem<Option<&'a [u8]>>
+fn text<'a>(told: &Told<'a>, words: &[Vec<u8>]) -> Mem<Option<&'a [u8]>>
     ensures { IfOk result (λ text. option_copied text ≡ text_on (machine_of told.now) (words_of words.now)) }
 {
-    match ran(alloc, told, words)? {
+    match ran(told, words)? {
         Some(written) => Ok(Some(written.output.as_slice())),
         None => Ok(None),
     }
 }
 
 /// The text that a part shows.
-pub(crate) fn shown_by<'a>(
-    alloc: Global,
-    told: &Told<'a>,
-    key: &Key<'_>,
-    part: &Part,
-) -> Mem<Option<&'a [u8]>>
-    ensures { IfOk result (λ text. option_copied text ≡ shown_by (key_of key.now) (machine_of told.now) (part_of part.now)) }
+pub(crate) fn shown_by<'a>(told: &Told<'a>, part: &Part) -> Mem<Option<&'a [u8]>>
+    ensures { IfOk result (λ text. option_copied text ≡ shown_by (key_in told.now) (machine_of told.now) (part_of part.now)) }
 {
     match part {
-        Part::Run(words) => text(alloc, told, words),
+        Part::Run(words) => text(told, words),
         Part::RunElse(words) => {
-            if has_failed(alloc, told, key)? {
-                text(alloc, told, words)
+            if has_failed(told)? {
+                text(told, words)
             } else {
                 Ok(None)
             }
@@ -60,12 +55,12 @@ pub(crate) fn shown_by<'a>(
 }
 
 /// The texts that the runs of a key wrote.
-pub(crate) fn shown<'a>(alloc: Global, told: &Told<'a>, key: &Key<'_>) -> Mem<Vec<&'a [u8]>>
-    ensures { IfOk result (λ texts. map (λ text. text.now) texts.items ≡ shown (key_of key.now) (machine_of told.now)) }
+pub(crate) fn shown<'a>(told: &Told<'a>) -> Mem<Vec<&'a [u8]>>
+    ensures { IfOk result (λ texts. map (λ text. text.now) texts.items ≡ shown (key_in told.now) (machine_of told.now)) }
 {
-    let mut texts = Vec::new(alloc);
-    for part in key.parts {
-        if let Some(text) = shown_by(alloc, told, key, part)? {
+    let mut texts = Vec::new(told.alloc);
+    for part in told.key.parts {
+        if let Some(text) = shown_by(told, part)? {
             texts.push(text)?;
         }
     }
@@ -163,39 +158,39 @@ pub(crate) fn each_once(alloc: Global, names: Vec<Vec<u8>>) -> Mem<Vec<Vec<u8>>>
 }
 
 /// The files that the runs name.
-pub(crate) fn marked(alloc: Global, told: &Told<'_>, key: &Key<'_>) -> Mem<Vec<Vec<u8>>>
-    ensures { IfOk result (λ names. words_of names.items ≡ marked (key_of key.now) (machine_of told.now)) }
+pub(crate) fn marked(told: &Told<'_>) -> Mem<Vec<Vec<u8>>>
+    ensures { IfOk result (λ names. words_of names.items ≡ marked (key_in told.now) (machine_of told.now)) }
 {
-    let names = all_marked(alloc, &shown(alloc, told, key)?)?;
-    each_once(alloc, names)
+    let names = all_marked(told.alloc, &shown(told)?)?;
+    each_once(told.alloc, names)
 }
 
 /// The files that the runs name, and the input.
-pub(crate) fn all_sources(alloc: Global, told: &Told<'_>, key: &Key<'_>) -> Mem<Vec<Vec<u8>>>
-    ensures { IfOk result (λ names. words_of names.items ≡ all_sources (key_of key.now) (machine_of told.now)) }
+pub(crate) fn all_sources(told: &Told<'_>) -> Mem<Vec<Vec<u8>>>
+    ensures { IfOk result (λ names. words_of names.items ≡ all_sources (key_in told.now) (machine_of told.now)) }
 {
-    let mut names = all_marked(alloc, &shown(alloc, told, key)?)?;
-    push_inputs(alloc, &mut names, key)?;
-    each_once(alloc, names)
+    let mut names = all_marked(told.alloc, &shown(told)?)?;
+    push_inputs(told.alloc, &mut names, told.key)?;
+    each_once(told.alloc, names)
 }
 
 /// The input, if the runs name no file.
-pub(crate) fn unmarked(alloc: Global, told: &Told<'_>, key: &Key<'_>) -> Mem<Vec<Vec<u8>>>
-    ensures { IfOk result (λ names. words_of names.items ≡ unmarked (key_of key.now) (machine_of told.now)) }
+pub(crate) fn unmarked(told: &Told<'_>) -> Mem<Vec<Vec<u8>>>
+    ensures { IfOk result (λ names. words_of names.items ≡ unmarked (key_in told.now) (machine_of told.now)) }
 {
-    let names = marked(alloc, told, key)?;
-    let mut inputs = Vec::new(alloc);
+    let names = marked(told)?;
+    let mut inputs = Vec::new(told.alloc);
     if names.is_empty() {
-        push_inputs(alloc, &mut inputs, key)?;
+        push_inputs(told.alloc, &mut inputs, told.key)?;
     }
     Ok(inputs)
 }
 
 /// The bytes of a file, as they were answered.
-fn content<'a>(alloc: Global, told: &Told<'a>, name: &[u8]) -> Mem<Option<&'a [u8]>>
+fn content<'a>(told: &Told<'a>, name: &[u8]) -> Mem<Option<&'a [u8]>>
     ensures { IfOk result (λ text. option_copied text ≡ machine_of told.now (bytes name.now)) }
 {
-    let question = Question::Bytes(Vec::from_slice(alloc, name)?);
+    let question = Question::Bytes(Vec::from_slice(told.alloc, name)?);
     if let Some(Answer::Bytes(Some(text))) = answer_to(&question, told.asked, told.answers) {
         return Ok(Some(text.as_slice()));
     }
@@ -203,26 +198,21 @@ fn content<'a>(alloc: Global, told: &Told<'a>, name: &[u8]) -> Mem<Option<&'a [u
 }
 
 /// The bytes of what is a file.
-fn content_at<'a>(alloc: Global, told: &Told<'a>, name: &[u8]) -> Mem<Option<&'a [u8]>>
+fn content_at<'a>(told: &Told<'a>, name: &[u8]) -> Mem<Option<&'a [u8]>>
     ensures { IfOk result (λ text. option_copied text ≡ content_at (machine_of told.now) name.now) }
 {
-    if !is_regular(alloc, told, name)? {
+    if !is_regular(told, name)? {
         return Ok(None);
     }
-    content(alloc, told, name)
+    content(told, name)
 }
 
 /// Appends the bytes of what are files.
-fn push_contents<'a>(
-    alloc: Global,
-    texts: &mut Vec<&'a [u8]>,
-    told: &Told<'a>,
-    names: &[Vec<u8>],
-) -> Mem<()>
+fn push_contents<'a>(texts: &mut Vec<&'a [u8]>, told: &Told<'a>, names: &[Vec<u8>]) -> Mem<()>
     ensures { OnOk result (map (λ text. text.now) texts.new.items ≡ map (λ text. text.now) texts.old.items ++ filter_map (content_at (machine_of told.now)) (words_of names.now)) }
 {
     for name in names {
-        if let Some(text) = content_at(alloc, told, name)? {
+        if let Some(text) = content_at(told, name)? {
             texts.push(text)?;
         }
     }
@@ -230,11 +220,11 @@ fn push_contents<'a>(
 }
 
 /// The texts of the runs, and the input if they name no file.
-pub(crate) fn searched<'a>(alloc: Global, told: &Told<'a>, key: &Key<'_>) -> Mem<Vec<&'a [u8]>>
-    ensures { IfOk result (λ texts. map (λ text. text.now) texts.items ≡ searched (key_of key.now) (machine_of told.now)) }
+pub(crate) fn searched<'a>(told: &Told<'a>) -> Mem<Vec<&'a [u8]>>
+    ensures { IfOk result (λ texts. map (λ text. text.now) texts.items ≡ searched (key_in told.now) (machine_of told.now)) }
 {
-    let names = unmarked(alloc, told, key)?;
-    let mut texts = shown(alloc, told, key)?;
-    push_contents(alloc, &mut texts, told, &names)?;
+    let names = unmarked(told)?;
+    let mut texts = shown(told)?;
+    push_contents(&mut texts, told, &names)?;
     Ok(texts)
 }

@@ -4,10 +4,10 @@ ghost use Rattle.std.specs.Option.{option_map};
 ghost use Rattle.scl_key.specs.Views.{part_of};
 ghost use Rattle.scl_questions.specs.Views.{written_of};
 ghost use Rattle.scl_rounds.specs.Vain.{forbids, hides, hides_by, hides_else, is_forbidden, is_hidden, is_hidden_else, is_vain};
-ghost use Rattle.scl_rounds.specs.Views.{key_of, machine_of};
+ghost use Rattle.scl_rounds.specs.Views.{key_in, machine_of};
 
 use crate::answer::{Told, answer};
-use crate::key::{Key, is_early};
+use crate::key::is_early;
 use crate::plan::planned;
 use crate::question::Phase;
 use crate::run::{has_failed, may_fail, names_sources, ran};
@@ -17,18 +17,18 @@ use scl_values::Mem;
 use std::alloc::Global;
 
 /// Whether nothing may be kept, by what the first round answers to a part.
-fn forbids(alloc: Global, told: &Told<'_>, key: &Key<'_>, part: &Part) -> Mem<bool>
-    ensures { IfOk result (λ it. it ≡ forbids (key_of key.now) (machine_of told.now) (part_of part.now)) }
+fn forbids(told: &Told<'_>, part: &Part) -> Mem<bool>
+    ensures { IfOk result (λ it. it ≡ forbids (key_in told.now) (machine_of told.now) (part_of part.now)) }
 {
-    Ok(is_early(part) && answer(alloc, told, key, part)?.is_none())
+    Ok(is_early(part) && answer(told, part)?.is_none())
 }
 
 /// Whether nothing may be kept, by what the first round answers.
-fn is_forbidden(alloc: Global, told: &Told<'_>, key: &Key<'_>) -> Mem<bool>
-    ensures { IfOk result (λ it. it ≡ is_forbidden (key_of key.now) (machine_of told.now)) }
+fn is_forbidden(told: &Told<'_>) -> Mem<bool>
+    ensures { IfOk result (λ it. it ≡ is_forbidden (key_in told.now) (machine_of told.now)) }
 {
-    for part in key.parts {
-        if forbids(alloc, told, key, part)? {
+    for part in told.key.parts {
+        if forbids(told, part)? {
             return Ok(true);
         }
     }
@@ -46,12 +46,12 @@ fn hides(alloc: Global, ran: Option<&Written>, may_fail: bool) -> Mem<bool>
 }
 
 /// Whether nothing may be kept, by what a run or a plan wrote.
-fn hides_by(alloc: Global, told: &Told<'_>, key: &Key<'_>, part: &Part) -> Mem<bool>
-    ensures { IfOk result (λ it. it ≡ hides_by (key_of key.now) (machine_of told.now) (part_of part.now)) }
+fn hides_by(told: &Told<'_>, part: &Part) -> Mem<bool>
+    ensures { IfOk result (λ it. it ≡ hides_by (key_in told.now) (machine_of told.now) (part_of part.now)) }
 {
     match part {
-        Part::Plan(words) => Ok(planned(alloc, told, words)?.is_none()),
-        Part::Run(words) => hides(alloc, ran(alloc, told, words)?, may_fail(key)),
+        Part::Plan(words) => Ok(planned(told, words)?.is_none()),
+        Part::Run(words) => hides(told.alloc, ran(told, words)?, may_fail(told.key)),
         Part::Is(_)
         | Part::Output(_)
         | Part::Directory
@@ -65,11 +65,11 @@ fn hides_by(alloc: Global, told: &Told<'_>, key: &Key<'_>, part: &Part) -> Mem<b
 }
 
 /// Whether nothing may be kept, by what the runs and plans wrote.
-fn is_hidden(alloc: Global, told: &Told<'_>, key: &Key<'_>) -> Mem<bool>
-    ensures { IfOk result (λ it. it ≡ is_hidden (key_of key.now) (machine_of told.now)) }
+fn is_hidden(told: &Told<'_>) -> Mem<bool>
+    ensures { IfOk result (λ it. it ≡ is_hidden (key_in told.now) (machine_of told.now)) }
 {
-    for part in key.parts {
-        if hides_by(alloc, told, key, part)? {
+    for part in told.key.parts {
+        if hides_by(told, part)? {
             return Ok(true);
         }
     }
@@ -77,23 +77,23 @@ fn is_hidden(alloc: Global, told: &Told<'_>, key: &Key<'_>) -> Mem<bool>
 }
 
 /// Whether nothing may be kept, by what a run wrote in the place of one that failed.
-fn hides_else(alloc: Global, told: &Told<'_>, key: &Key<'_>, part: &Part) -> Mem<bool>
-    ensures { IfOk result (λ it. it ≡ hides_else (key_of key.now) (machine_of told.now) (part_of part.now)) }
+fn hides_else(told: &Told<'_>, part: &Part) -> Mem<bool>
+    ensures { IfOk result (λ it. it ≡ hides_else (key_in told.now) (machine_of told.now) (part_of part.now)) }
 {
     if let Part::RunElse(words) = part {
-        if has_failed(alloc, told, key)? {
-            return hides(alloc, ran(alloc, told, words)?, false);
+        if has_failed(told)? {
+            return hides(told.alloc, ran(told, words)?, false);
         }
     }
     Ok(false)
 }
 
 /// Whether nothing may be kept, by what the runs wrote in the place of those that failed.
-fn is_hidden_else(alloc: Global, told: &Told<'_>, key: &Key<'_>) -> Mem<bool>
-    ensures { IfOk result (λ it. it ≡ is_hidden_else (key_of key.now) (machine_of told.now)) }
+fn is_hidden_else(told: &Told<'_>) -> Mem<bool>
+    ensures { IfOk result (λ it. it ≡ is_hidden_else (key_in told.now) (machine_of told.now)) }
 {
-    for part in key.parts {
-        if hides_else(alloc, told, key, part)? {
+    for part in told.key.parts {
+        if hides_else(told, part)? {
             return Ok(true);
         }
     }
@@ -101,13 +101,13 @@ fn is_hidden_else(alloc: Global, told: &Told<'_>, key: &Key<'_>) -> Mem<bool>
 }
 
 /// Whether a round is in vain, since nothing may be kept.
-pub(crate) fn is_vain(alloc: Global, told: &Told<'_>, key: &Key<'_>, phase: Phase) -> Mem<bool>
-    ensures { IfOk result (λ it. it ≡ is_vain (key_of key.now) phase (machine_of told.now)) }
+pub(crate) fn is_vain(told: &Told<'_>, phase: Phase) -> Mem<bool>
+    ensures { IfOk result (λ it. it ≡ is_vain (key_in told.now) phase (machine_of told.now)) }
 {
     match phase {
         Phase::First | Phase::Details | Phase::Inside => Ok(false),
-        Phase::Runs => is_forbidden(alloc, told, key),
-        Phase::RunsElse => is_hidden(alloc, told, key),
-        Phase::Files => is_hidden_else(alloc, told, key),
+        Phase::Runs => is_forbidden(told),
+        Phase::RunsElse => is_hidden(told),
+        Phase::Files => is_hidden_else(told),
     }
 }

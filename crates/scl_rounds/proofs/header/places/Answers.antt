@@ -3,13 +3,13 @@ use Rattle.std.specs.List.{flat_map}
 use Rattle.scl_values.specs.Words.{words_of}
 use Rattle.scl_rounds.specs.Headers.{folders, headers, included_as}
 use Rattle.scl_rounds.specs.Shown.{each_once, marked}
-use Rattle.scl_rounds.specs.Views.{key_of, machine_of}
+use Rattle.scl_rounds.specs.Views.{key_in, machine_of}
 use Rattle.scl_rounds.proofs.HeaderLemmas.{places_are}
 use Rattle.scl_rounds.proofs.header.places.Goals as goal
 
 pub returns : goal.returns
 returns c =
-    let key = key_of c.args.key.now in
+    let key = key_in c.args.told.now in
     let m = machine_of c.args.told.now in
     let searched = words_of c.args.searched.now in
     let them = words_of c.in_ok-headers.headers.items in

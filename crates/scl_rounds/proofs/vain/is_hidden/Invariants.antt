@@ -2,9 +2,9 @@ use Rattle.std.proofs.Common.{◌≡◌, drop}
 use Rattle.std.specs.List.{list_any}
 use Rattle.scl_key.specs.Views.{parts_of}
 use Rattle.scl_rounds.specs.Vain.{hides_by, is_hidden}
-use Rattle.scl_rounds.specs.Views.{key_of, machine_of}
+use Rattle.scl_rounds.specs.Views.{key_in, machine_of}
 use Rattle.scl_rounds.proofs.vain.is_hidden.Given as goal
 
 abbrev pub invariant-loop-part : goal.invariant-loop-part
 invariant-loop-part l =
-    list_any (hides_by (key_of l.key) (machine_of l.told)) (parts_of (drop l.part-index l.key.parts.now)) ≡ is_hidden (key_of l.key) (machine_of l.told)
+    list_any (hides_by (key_in l.told) (machine_of l.told)) (parts_of (drop l.part-index l.told.key.now.parts.now)) ≡ is_hidden (key_in l.told) (machine_of l.told)
