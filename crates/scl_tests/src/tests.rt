@@ -2,6 +2,7 @@
 mod calls;
 mod compilers;
 mod devices;
+mod rounds;
 mod texts;
 
 use scl_cl::Mem;

@@ -1,0 +1,515 @@
+//! Lookups over machines of a few files: what each round asks, and the rows at the end, by docs/PROTOCOL.md, A key.
+//!
+//! A machine is a text of lines `QUESTION => ANSWER`: a file's sum, `/` of a folder, what a run writes. What no line asks for is not
+//! there, and such a run fails. In its texts `|` is the end of a line.
+use scl_cl::Mem;
+use scl_key::{Ask, Output, Part};
+use scl_questions::{Answer, Field, Language, Program, Question, Standing, Written};
+use scl_rounds::{Key, Next, look_up};
+use std::alloc::Global;
+use std::test::Fail;
+
+// ---- texts of keys
+
+/// What gcc's keys look for in texts: that sources count, and that an assembler reads a file.
+static TELLING: &str =
+    "__builtin_(COLUMN|LINE|FILE|source_location)|diagnostic[ \t]+error|__has_embed|#[ \t]*embed";
+
+static INCLUDING: &str =
+    "(^|[^])A-Za-z0-9_.$]|\\\\[nt])\\.[Ii][Nn][Cc]([Bb][Ii][Nn]|[Ll][Uu][Dd][Ee])([^A-Za-z0-9_]|$)|^[ \t]*#[ \t]*embed|\\.[A-Za-z0-9_]*\\\\\\\\[A-Za-z0-9_(@]";
+
+fn words(alloc: Global, text: &str) -> Mem<Vec<Vec<u8>>> {
+    let mut words = Vec::new(alloc);
+    for word in text.split(' ') {
+        words.push(Vec::from_slice(alloc, word.as_bytes())?)?;
+    }
+    Ok(words)
+}
+
+fn asked(alloc: Global, ask: Ask, name: &str) -> Mem<Part> {
+    Ok(Part::Asked(ask, Vec::from_slice(alloc, name.as_bytes())?))
+}
+
+fn output(alloc: Global, path: &str) -> Mem<Part> {
+    Ok(Part::Output(Output {
+        name: Vec::from_slice(alloc, b"obj")?,
+        path: Vec::from_slice(alloc, path.as_bytes())?,
+        optional: false,
+    }))
+}
+
+/// The part of a row of this name, with these fields. The names of two rows stand for them with the patterns above.
+fn part(alloc: Global, name: &str, fields: &str) -> Mem<Part> {
+    match name {
+        "output" => output(alloc, fields),
+        "directory" => Ok(Part::Directory),
+        "compiler" => Ok(Part::Compiler),
+        "env" => asked(alloc, Ask::Env, fields),
+        "unset" => asked(alloc, Ask::Unset, fields),
+        "maybe" => asked(alloc, Ask::Maybe, fields),
+        "regular" => asked(alloc, Ask::Regular, fields),
+        "if-telling" => asked(alloc, Ask::SourcesIfShown, TELLING),
+        "unless-including" => asked(alloc, Ask::RefuseIfShown, INCLUDING),
+        "run" => Ok(Part::Run(words(alloc, fields)?)),
+        "run-else" => Ok(Part::RunElse(words(alloc, fields)?)),
+        "pch" => Ok(Part::Pch(words(alloc, fields)?)),
+        "sources" => Ok(Part::Sources),
+        "times" => Ok(Part::Times),
+        _ => Ok(Part::Is(words(alloc, fields)?)),
+    }
+}
+
+fn parts(alloc: Global, key: &str) -> Mem<Vec<Part>> {
+    let mut parts = Vec::new(alloc);
+    for row in key.lines() {
+        let (name, fields) = row.split_once(' ').unwrap_or((row, ""));
+        parts.push(part(alloc, name, fields)?)?;
+    }
+    Ok(parts)
+}
+
+// ---- texts of questions, and machines
+
+fn push_named(text: &mut Vec<u8>, what: &str, name: &[u8]) -> Mem<()> {
+    text.extend_from_slice(what.as_bytes())?;
+    text.push(b' ')?;
+    text.extend_from_slice(name)
+}
+
+fn push_run(text: &mut Vec<u8>, language: Language, words: &[Vec<u8>]) -> Mem<()> {
+    text.extend_from_slice(match language {
+        Language::C => b"run-in-C".as_slice(),
+        Language::Own => b"run".as_slice(),
+    })?;
+    for word in words {
+        push_named(text, "", word)?;
+    }
+    Ok(())
+}
+
+fn push_question(text: &mut Vec<u8>, question: &Question) -> Mem<()> {
+    match question {
+        Question::Env(name) => push_named(text, "env", name),
+        Question::Program(name) => push_named(text, "program", name),
+        Question::File(path) => push_named(text, "file", path),
+        Question::Bytes(path) => push_named(text, "bytes", path),
+        Question::Names(path) => push_named(text, "names", path),
+        Question::Real(path) => push_named(text, "real", path),
+        Question::Times(path) => push_named(text, "times", path),
+        Question::Run(language, words) => push_run(text, *language, words),
+    }
+}
+
+fn told<'a>(alloc: Global, machine: &'a str, question: &Question) -> Mem<Option<&'a str>> {
+    let mut asked = Vec::new(alloc);
+    push_question(&mut asked, question)?;
+    for line in machine.lines() {
+        if let Some((fact, answer)) = line.split_once(" => ") {
+            if fact.as_bytes() == asked.as_slice() {
+                return Ok(Some(answer));
+            }
+        }
+    }
+    Ok(None)
+}
+
+fn bytes(alloc: Global, text: &str) -> Mem<Vec<u8>> {
+    Vec::from_slice(alloc, text.as_bytes())
+}
+
+fn some_bytes(alloc: Global, text: Option<&str>) -> Mem<Option<Vec<u8>>> {
+    match text {
+        Some(text) => Ok(Some(bytes(alloc, text)?)),
+        None => Ok(None),
+    }
+}
+
+fn program(alloc: Global, sum: Option<&str>) -> Mem<Option<Program>> {
+    match sum {
+        Some(sum) => Ok(Some(Program {
+            sum: bytes(alloc, sum)?,
+            links: words(alloc, "/usr/bin/gcc /usr/bin/gcc-12")?,
+        })),
+        None => Ok(None),
+    }
+}
+
+fn standing(alloc: Global, text: Option<&str>) -> Mem<Standing> {
+    match text {
+        None => Ok(Standing::Missing),
+        Some("/") => Ok(Standing::Folder),
+        Some("!") => Ok(Standing::Special),
+        Some(sum) => Ok(Standing::Regular(bytes(alloc, sum)?)),
+    }
+}
+
+fn written(alloc: Global, text: Option<&str>) -> Mem<Written> {
+    let mut output = Vec::new(alloc);
+    for byte in text.unwrap_or("").as_bytes() {
+        output.push(if *byte == b'|' { b'\n' } else { *byte })?;
+    }
+    Ok(Written {
+        status: if text.is_some() { 0 } else { 1 },
+        output,
+        messages: Vec::new(alloc),
+        own: Vec::new(alloc),
+    })
+}
+
+fn answer(alloc: Global, machine: &str, question: &Question) -> Mem<Answer> {
+    let told = told(alloc, machine, question)?;
+    let text = told.unwrap_or("");
+    match question {
+        Question::Env(_) => Ok(Answer::Value(some_bytes(alloc, told)?)),
+        Question::Program(_) => Ok(Answer::Program(program(alloc, told)?)),
+        Question::File(_) => Ok(Answer::Standing(standing(alloc, told)?)),
+        Question::Bytes(_) => Ok(Answer::Bytes(some_bytes(alloc, told)?)),
+        Question::Names(_) => Ok(Answer::Names(words(alloc, text)?)),
+        Question::Real(_) => Ok(Answer::Real(bytes(alloc, text)?)),
+        Question::Times(_) => Ok(Answer::Times(bytes(alloc, text)?)),
+        Question::Run(_, _) => Ok(Answer::Written(written(alloc, told)?)),
+    }
+}
+
+// ---- a lookup
+
+/// What was asked, with an empty line after each round; and the end.
+#[derive(Debug, Drop)]
+struct Talk {
+    asked: Vec<u8>,
+    end: Vec<u8>,
+}
+
+/// Appends a field: `:` and a text, or `=` and a sum.
+fn push_field(text: &mut Vec<u8>, field: &Field) -> Mem<()> {
+    let (mark, written) = match field {
+        Field::Said(text) => (b':', text),
+        Field::Summed(sum) => (b'=', sum),
+    };
+    text.push(mark)?;
+    for byte in written {
+        text.push(if *byte == b'\n' { b'|' } else { *byte })?;
+    }
+    Ok(())
+}
+
+fn push_row(text: &mut Vec<u8>, row: &[Field]) -> Mem<()> {
+    for (at, field) in row.iter().enumerate() {
+        if at > 0 {
+            text.push(b' ')?;
+        }
+        push_field(text, field)?;
+    }
+    text.push(b'\n')?;
+    Ok(())
+}
+
+fn push_rows(text: &mut Vec<u8>, rows: &[Vec<Field>]) -> Mem<()> {
+    for row in rows {
+        push_row(text, row)?;
+    }
+    Ok(())
+}
+
+/// Appends the questions of a round, and what the machine answers.
+fn take_round(
+    alloc: Global,
+    talk: &mut Talk,
+    answers: &mut Vec<Answer>,
+    machine: &str,
+    questions: &[Question],
+) -> Mem<()> {
+    for question in questions {
+        push_question(&mut talk.asked, question)?;
+        talk.asked.push(b'\n')?;
+        answers.push(answer(alloc, machine, question)?)?;
+    }
+    talk.asked.push(b'\n')?;
+    Ok(())
+}
+
+/// Talks until there is an end, in as many rounds as there are.
+fn talked(alloc: Global, key: &str, machine: &str) -> Mem<Talk> {
+    let parts = parts(alloc, key)?;
+    let mut answers = Vec::new(alloc);
+    let mut talk = Talk {
+        asked: Vec::new(alloc),
+        end: Vec::new(alloc),
+    };
+    let key = Key {
+        place: b"/w",
+        parts: &parts,
+    };
+    for _ in 0..7 {
+        match look_up(alloc, &key, &answers)? {
+            Next::LookUp(questions) => {
+                take_round(alloc, &mut talk, &mut answers, machine, &questions)?
+            }
+            Next::Found(rows) => {
+                push_rows(&mut talk.end, &rows)?;
+                return Ok(talk);
+            }
+            Next::Nothing => {
+                talk.end.extend_from_slice(b"nothing")?;
+                return Ok(talk);
+            }
+            Next::Refused(_) => {
+                talk.end.extend_from_slice(b"refused")?;
+                return Ok(talk);
+            }
+        }
+    }
+    Ok(talk)
+}
+
+fn shown(text: &[u8]) -> &str {
+    str::from_utf8(text).unwrap_or("no text")
+}
+
+// ---- a plain line
+
+static PLAIN: &str = "is input a.c
+output a.o
+directory
+compiler
+env LANG
+unset SUNPRO_DEPENDENCIES
+maybe a.o
+regular a.c
+run -E -Ii a.c
+pch beside a.c folder i variable CPATH
+if-telling
+unless-including";
+
+static PLAIN_MACHINE: &str = r#"env PWD => /home/w
+env LANG => C
+program  => of-gcc
+file a.c => of-a
+real /home/w => /disk/w
+real /w => /disk/w
+run -E -Ii a.c => # 1 "a.c"|# 1 "i/s.h" 1|int s;|# 2 "a.c" 2|int x = __LINE__;|
+"#;
+
+static PLAIN_ASKED: &str = "env PWD
+program\u{20}
+env LANG
+env SUNPRO_DEPENDENCIES
+file a.c
+env CPATH
+
+real /home/w
+real /w
+run -E -Ii a.c
+
+file i/i/s.h.gch
+file i/s.h.gch
+file s.h.gch
+file a.c.gch
+
+";
+
+static PLAIN_ROWS: &str = r#":is :input :a.c
+:output :obj :a.o
+:directory :/home/w
+:compiler :gcc =of-gcc
+:env :LANG :=C
+:unset :SUNPRO_DEPENDENCIES
+:maybe :a.o
+:regular :a.c
+:run :# 1 "a.c"|# 1 "i/s.h" 1|int s;|# 2 "a.c" 2|int x = __LINE__;| : :
+:pch
+"#;
+
+#[test]
+fn a_plain_line_has_rows(rt: HostRuntime) -> Result<(), Fail> {
+    let talk = talked(rt.alloc(), PLAIN, PLAIN_MACHINE)?;
+    let asked = shown(&talk.asked);
+    assert!(rt; asked == PLAIN_ASKED, "{asked}");
+    let rows = shown(&talk.end);
+    let rest = rows.strip_prefix(PLAIN_ROWS).ok_or("other rows")?;
+    let patterns = format!(in rt.alloc();
+        ":sources-if-shown :{TELLING} :-\n:refuse-if-shown :{INCLUDING}\n"
+    )?;
+    assert!(rt; rest == patterns.as_str(), "{rest}");
+    Ok(())
+}
+
+// ---- precompiled headers
+
+static SEARCHED: &str = "is input a.c
+run -E -Ij -Ik a.c
+pch beside a.c folder j folder k";
+
+static SEARCHED_AS_SYSTEM: &str = "is input a.c
+run -E -isystem j -Ik a.c
+pch beside a.c folder j folder k";
+
+static WITHOUT_HEADER: &str = r#"run -E -Ij -Ik a.c => # 1 "a.c"|# 1 "k/h.h" 1|int h;|
+run -E -isystem j -Ik a.c => # 1 "a.c"|# 1 "k/h.h" 1|int h;|
+file a.c => of-a
+"#;
+
+static WITH_HEADER: &str = r#"run -E -Ij -Ik a.c => # 1 "a.c"|# 1 "k/h.h" 1|int h;|
+run -E -isystem j -Ik a.c => # 1 "a.c"|# 1 "k/h.h" 1|int h;|
+file k/h.h.gch => of-k
+file j/h.h.gch => /
+names j/h.h.gch => c.gch c++.gch
+file j/h.h.gch/c.gch => of-c
+"#;
+
+static PLACES: &str = "file j/k/h.h.gch
+file j/h.h.gch
+file k/k/h.h.gch
+file k/h.h.gch
+file h.h.gch
+file a.c.gch
+
+";
+
+static INSIDE: &str = "names j/h.h.gch
+
+file j/h.h.gch/c.gch
+file j/h.h.gch/c++.gch
+
+";
+
+static FOUND: &str =
+    ":j/k/h.h.gch :- :j/h.h.gch :/ :k/k/h.h.gch :- :k/h.h.gch =of-k :h.h.gch :- :a.c.gch :- :j/h.h.gch/c.gch =of-c :j/h.h.gch/c++.gch :-\n";
+
+#[test]
+fn a_precompiled_header_brings_the_words_of_runs(rt: HostRuntime) -> Result<(), Fail> {
+    for (key, words) in [
+        (SEARCHED, ":pch :29:4::run3::-E4::-Ij4::-Ik4::a.c "),
+        (
+            SEARCHED_AS_SYSTEM,
+            ":pch :38:4::run3::-E9::-isystem2::j4::-Ik4::a.c ",
+        ),
+    ] {
+        let talk = talked(rt.alloc(), key, WITH_HEADER)?;
+        let asked = shown(&talk.asked);
+        let (_, behind) = asked.split_once("\n\n").ok_or("one round")?;
+        assert!(rt; behind.strip_prefix(PLACES) == Some(INSIDE), "{asked}");
+        let rows = shown(&talk.end);
+        let (_, row) = rows.split_once(words).ok_or("other words")?;
+        assert!(rt; row == FOUND, "{rows}");
+    }
+    Ok(())
+}
+
+#[test]
+fn without_precompiled_header_words_of_runs_are_no_matter(rt: HostRuntime) -> Result<(), Fail> {
+    let talk_of_both = talked(rt.alloc(), SEARCHED, WITHOUT_HEADER)?;
+    let other = talked(rt.alloc(), SEARCHED_AS_SYSTEM, WITHOUT_HEADER)?;
+    let rows = shown(&talk_of_both.end);
+    assert!(rt; rows.ends_with("\n:pch\n"), "{rows}");
+    assert!(rt; rows == shown(&other.end));
+    Ok(())
+}
+
+// ---- runs that fail, and answers that do not fit
+
+static WITH_ELSE: &str = "is input a.c
+run -E a.c
+run-else -E -fdirectives-only a.c
+sources
+times";
+
+static ELSE_MACHINE: &str =
+    r#"run -E -fdirectives-only a.c => # 1 "h.h"|#pragma GCC pch_preprocess "h.h.gch"|
+file a.c => of-a
+file h.h => of-h
+file h.h.gch => of-gch
+times h.h => 12 34
+"#;
+
+static ELSE_ASKED: &str = "run -E a.c
+
+run -E -fdirectives-only a.c
+
+file h.h.gch
+file h.h
+file a.c
+
+times h.h
+
+";
+
+static ELSE_ROWS: &str = r#":is :input :a.c
+:run :-
+:run-else :# 1 "h.h"|#pragma GCC pch_preprocess "h.h.gch"| : : :h.h.gch =of-gch
+:sources :h.h =of-h :a.c =of-a
+:times :h.h :12 34
+"#;
+
+/// The text of the run names no source.
+static UNNAMED: &str = "is input a.s
+run -E a.s
+unless-including";
+
+static UNNAMED_MACHINE: &str = "run -E a.s => \nfile a.s => of-a\nbytes a.s => .incbin \"x\"";
+
+static UNNAMED_ASKED: &str = "run -E a.s
+
+file a.s
+
+bytes a.s
+
+";
+
+#[test]
+fn runs_may_fail(rt: HostRuntime) -> Result<(), Fail> {
+    for (key, machine, asked, end) in [
+        (SEARCHED, "", "run -E -Ij -Ik a.c\n\n", "nothing"),
+        (WITH_ELSE, ELSE_MACHINE, ELSE_ASKED, ELSE_ROWS),
+        (
+            WITH_ELSE,
+            "",
+            "run -E a.c\n\nrun -E -fdirectives-only a.c\n\n",
+            "nothing",
+        ),
+        ("unset V\nrun -E a.c", "env V => ", "env V\n\n", "nothing"),
+        (
+            "regular a.c\nrun -E a.c",
+            "file a.c => !",
+            "file a.c\n\n",
+            "nothing",
+        ),
+        (
+            "run -E a.c\nsources",
+            "run -E a.c => int x;",
+            "run -E a.c\n\n",
+            "nothing",
+        ),
+        (UNNAMED, UNNAMED_MACHINE, UNNAMED_ASKED, "nothing"),
+    ] {
+        let talk = talked(rt.alloc(), key, machine)?;
+        let (questions, told) = (shown(&talk.asked), shown(&talk.end));
+        assert!(rt; questions == asked, "{questions}");
+        assert!(rt; told == end, "{told}");
+    }
+    Ok(())
+}
+
+#[test]
+fn answers_of_other_questions_are_refused(rt: HostRuntime) -> Result<(), Fail> {
+    let parts = parts(rt.alloc(), "env A\nregular a.c")?;
+    let key = Key {
+        place: b"/w",
+        parts: &parts,
+    };
+    let mut answers = Vec::new(rt.alloc());
+    answers.push(Answer::Value(None))?;
+    let early = look_up(rt.alloc(), &key, &answers)?;
+    assert!(rt; matches!(early, Next::Refused(1)));
+    answers.push(Answer::Bytes(None))?;
+    let other = look_up(rt.alloc(), &key, &answers)?;
+    assert!(rt; matches!(other, Next::Refused(1)));
+    answers.pop();
+    answers.push(Answer::Standing(Standing::Missing))?;
+    let right = look_up(rt.alloc(), &key, &answers)?;
+    assert!(rt; matches!(right, Next::Found(_)));
+    answers.push(Answer::Value(None))?;
+    let more = look_up(rt.alloc(), &key, &answers)?;
+    assert!(rt; matches!(more, Next::Refused(2)));
+    Ok(())
+}
