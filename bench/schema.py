@@ -29,6 +29,20 @@ OUTCOMES = (
     ("ERROR", [], []),
 )
 SIDE = {"$ref": "#/$defs/side"}
+# What the members are of an answer that no row of a description has.
+OWN = {
+    "compiler": "the compiler's name here",
+    "program": "the compiler's program, as given",
+    "directory": "the compiler's directory",
+    "response_files": "response files that were read",
+    "missing_files": "response files that words name and that do not exist",
+    "hazards": "objects with `name`, `danger` and `consequence`, a sentence for people",
+    "unrunnable": "a word of the command holds a NUL: why no process can be given it",
+    "reason": "the row `reason`; of `not-compilation` the flag that asks for something else, or that none asks to compile",
+    "entry": "of `database`: the entry's number, from 1",
+    "file": "of `database`: the entry's file",
+    "error": "of `database`: why the entry has no answer",
+}
 
 
 def said(text, schema):
@@ -66,6 +80,11 @@ DOCUMENTS = (
 def document_rows():
     """The members of each document, with what they are."""
     return [[f"`{title}`".replace(" of ", "` of ").rstrip("`") if " of " in title else f"`{title}`", f"`{name}`", it["description"]] for title, members in DOCUMENTS for name, it in members.items()]
+
+
+def own_rows():
+    """The members of an answer that no row of a description has, with what they are."""
+    return [[f"`{name}`", text] for name, text in OWN.items()]
 
 
 KINDS = {"object": dict, "array": list, "string": str, "integer": int, "boolean": bool, "null": type(None)}
@@ -108,7 +127,8 @@ def outcome_of(name, rows, outcomes, table):
 
 def answer_of(table):
     """The schema of an answer to one line."""
-    properties = {name: form_of(form, fields, [row for row, other, _, _ in table if other == name]) for _, name, form, fields in table}
+    forms = {name: form_of(form, fields, [row for row, other, _, _ in table if other == name]) for _, name, form, fields in table}
+    properties = {name: said(OWN[name], form) if name in OWN else form for name, form in forms.items()}
     known = [outcome_of(*it, table) for it in OUTCOMES]
     return {"type": "object", "properties": properties, "anyOf": known, "additionalProperties": ROWS}
 
