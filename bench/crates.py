@@ -12,8 +12,6 @@ PROVED = ("src", "specs", "proofs", "c")
 MADE = {
     "catalogue/hazards.txt": "scl_catalogue_default",
     "catalogue/effects.txt": "scl_catalogue_default",
-    "catalogue/plain.txt": "scl_effects_default",
-    "catalogue/reasons.txt": "scl_reasons",
 }
 
 

@@ -1,7 +1,7 @@
 """docs/EFFECTS.md, of the catalogue's texts: bench/pages writes it."""
 import re
 
-TEXT, NAMES = "catalogue/effects.txt", "catalogue/plain.txt"
+TEXT = "catalogue/effects.txt"
 SHOWN = 10  # of a list of names that is longer, this many stand on the page
 HEADINGS = {
     "reads": ("What is read", "A file on whose bytes the object depends."),
@@ -13,6 +13,7 @@ OF_WORDS = {
     "key": ("What a key answers for", "The first row that fits a word decides. A word that none fits is `exact`: the outcome may have what the preprocessed text does not show."),
     "run": ("What a run of the preprocessor reads", "This is asked of words that are not `plain` above. A word that no row fits is `exact`: a run may read more because of it."),
     "names": ("What the object names", "The first row that fits a word decides. A word that none fits may make the object name anything of the place where it is made."),
+    "brings": ("What a word of the preprocessor brings in", "The first row that fits a word decides. A word that none fits is `unknown`: a text may not show what it brings in. `x*` is a flag whose value stands behind it, or in the next word."),
 }
 INTRODUCTION = """# Effects
 
@@ -20,7 +21,7 @@ A compiler may read, write and ask more than its input, its headers and its obje
 know this gives back the wrong object, or loses a file. So the catalogue says of each option what it does, and which options do nothing of the kind. docs/PROTOCOL.md says which rows come of it, and
 when a line may be kept.
 
-This page is made of `catalogue/effects.txt` and `catalogue/plain.txt`; catalogue/README.md says how these are written. An option that neither has is *unknown*: what such a line makes is not kept.
+This page is made of `catalogue/effects.txt`; catalogue/README.md says how it is written. An option of which it says nothing is *unknown*: what such a line makes is not kept.
 
 How to read a row:
 
@@ -122,15 +123,17 @@ def table(groups, entries, column):
         yield f"| {it.name}{file} | {options} | {it.says} |"
 
 
-def names():
-    """How many names each line of the plain ones has, by its compilers."""
-    counts = {}
-    with open(NAMES, encoding="utf-8") as text:
-        for line in text.read().splitlines():
-            served, colon, rest = line.partition(": ")
-            if colon and not line.startswith("#"):
-                counts[served] = counts.get(served, 0) + len(rest.split(" | ")[1].split())
-    return counts
+def group_named(entry):
+    """The group of an entry that has whole names, if it is one."""
+    group = entry.cases[0].partition(": any ")[2] if entry.verb == "plain" else ""
+    return group if group.endswith("_NAMES") or "_NAMES_" in group else ""
+
+
+def names(groups, entries):
+    """A table of the entries that have whole names: the first few names of each, and how many."""
+    yield "| Name | Options | Why |\n|---|---|---|"
+    for it in entries:
+        yield f"| {it.name} | {it.cases[0].partition(':')[0]}: {group_said(groups, group_named(it))} | {it.says} |"
 
 
 def page(_):
@@ -141,10 +144,9 @@ def page(_):
         yield f"\n## {heading}\n\n{sentence}\n"
         yield from table(groups, [it for it in entries if it.verb == verb], "" if verb == "asks" else "File")
     yield "\n## What does nothing of the kind\n\nWhat such an option gives or makes is in the record or in the key already, or it is no file at all.\n"
-    yield from table(groups, [it for it in entries if it.verb == "plain"], "")
-    yield "\n## Names that do nothing of the kind\n\n`catalogue/plain.txt` has further options, each by its whole name.\n\n| Compilers | Names |\n|---|---|"
-    for served, count in names().items():
-        yield f"| {served} | {count} |"
+    yield from table(groups, [it for it in entries if it.verb == "plain" and not group_named(it)], "")
+    yield "\n## Names that do nothing of the kind\n\nEach of these options is known by its whole name. One of clang or clang-cl counts as an inner option too.\n"
+    yield from names(groups, [it for it in entries if group_named(it)])
     for kind, (heading, sentence) in OF_WORDS.items():
         yield f"\n## {heading}\n\n{sentence}\n"
         yield from table(groups, [it for it in entries if it.verb == kind], "What")

@@ -68,6 +68,7 @@ DOCUMENTS = (
     ("scl flags", {
         "flags": said("arrays: the compiler, the flag, how its value stands, its kind, and TO", ROWS),
         "words": said("an array for each given word: the compiler, the word, its flag or an empty text, and TO", ROWS),
+        "catalogue": said("an array for each entry of the catalogue that speaks of a given word: the word, the entry's name, what it states, and its sentence", ROWS),
     }),
     ("scl reasons", {
         "reasons": said("arrays: the reason, and its sentence", ROWS),

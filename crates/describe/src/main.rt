@@ -4,8 +4,7 @@
 use scl_catalogue_default::{built_in, over_built_in};
 use scl_catalogue_text::{BadLine, ReadError};
 use scl_cl::{Counted, Outcome, serve, serve_each};
-use scl_describe::{Catalogue, Tables};
-use scl_effects_default::plain_names;
+use scl_describe::Catalogue;
 use scl_requests::Requests;
 use scl_shell::shown_briefly;
 use std::alloc::AllocError;
@@ -89,13 +88,9 @@ fn tell(rt: &HostRuntime, outcome: Outcome) -> u8 {
 
 /// Describes the request of standard input, by a catalogue, and gives the status.
 fn describe_by(rt: &HostRuntime, catalogue: &Catalogue, is_batch: bool) -> u8 {
-    let tables = Tables {
-        catalogue,
-        plain: plain_names(),
-    };
     let mut reader = Counted::new(rt.stdin());
     let mut writer = Counted::new(rt.stdout());
-    let requests = Requests { tables };
+    let requests = Requests { catalogue };
     let outcome = if is_batch {
         serve_each(rt.alloc(), &requests, &mut reader, &mut writer)
     } else {

@@ -4,8 +4,7 @@
 
 use scl_catalogue_default::{built_in, over_built_in};
 use scl_catalogue_text::ReadError;
-use scl_describe::{Catalogue, PlainNames};
-use scl_effects_default::plain_names;
+use scl_describe::Catalogue;
 use scl_program::{BuiltIn, answer};
 use std::alloc::Global;
 use std::process::ExitCode;
@@ -20,10 +19,6 @@ impl BuiltIn for Known {
 
     fn over(&self, alloc: Global, text: &[u8]) -> Result<Catalogue, ReadError> {
         over_built_in(alloc, text)
-    }
-
-    fn plain(&self) -> PlainNames<'static> {
-        plain_names()
     }
 }
 

@@ -11,10 +11,10 @@ use Rattle.scl_requests.specs.Requests.{AnswersBy, AnswersBytes, is_described, k
 use Rattle.scl_requests.specs.declared.requests.Kind.{Kind}
 use Rattle.scl_requests.specs.declared.requests.Kind.TheVariants as kinds
 use Rattle.scl_c.specs.Described.{IsDescribed, IsStatus}
-use Rattle.scl_c.specs.Catalogues.{IsDescribedBy, IsDescribedWhere, IsFirstWrongLine, IsUnreadBy, tables_with}
+use Rattle.scl_c.specs.Catalogues.{IsDescribedBy, IsDescribedWhere, IsFirstWrongLine, IsUnreadBy}
 
 pub by_catalogue : (r : Result Catalogue BadLine) (catalogue : Catalogue) (request old new : List ℕ) (wanted : ℕ) (status : ℤ) → r ≡ Ok catalogue →
-    IsDescribed (AnswersBytes (tables_with catalogue) request) request old new wanted status → IsDescribedBy r request old new wanted status
+    IsDescribed (AnswersBytes catalogue request) request old new wanted status → IsDescribedBy r request old new wanted status
 by_catalogue r catalogue request old new wanted status is h = subst (λ it. IsDescribedBy it request old new wanted status) (sym is) h
 
 -- where memory was refused nothing is said of the text
@@ -62,7 +62,7 @@ pub never_wrong : (Answers : Result (List ℕ) ℕ → Type 0) (request old new 
 never_wrong Answers request old new wanted status h six = no-six status h.known six
 
 any-kind : (kind : Kind) (c d : Catalogue) (request old new : List ℕ) (wanted : ℕ) (status : ℤ) → is_described kind ≡ false →
-    IsDescribed (AnswersBy kind (tables_with c) request) request old new wanted status → IsDescribed (AnswersBy kind (tables_with d) request) request old new wanted status
+    IsDescribed (AnswersBy kind c request) request old new wanted status → IsDescribed (AnswersBy kind d request) request old new wanted status
 any-kind kinds.Name c d request old new wanted status e h = h
 any-kind kinds.Join c d request old new wanted status e h = h
 any-kind kinds.Map c d request old new wanted status e h = h
@@ -72,7 +72,7 @@ any-kind kinds.Description c d request old new wanted status e h = absurd (cc)
 
 -- what is no description is answered alike by each catalogue
 pub without_description : (c : Catalogue) (read : Result Catalogue BadLine) (request old new : List ℕ) (wanted : ℕ) (status : ℤ) → is_described (kind_of (lines_of request)) ≡ false →
-    IsDescribed (AnswersBytes (tables_with c) request) request old new wanted status → IsDescribedWhere (is_described (kind_of (lines_of request))) read request old new wanted status
+    IsDescribed (AnswersBytes c request) request old new wanted status → IsDescribedWhere (is_described (kind_of (lines_of request))) read request old new wanted status
 without_description c read request old new wanted status e h =
     subst (λ b. IsDescribedWhere b read request old new wanted status) (sym e) (λ d. any-kind (kind_of (lines_of request)) c d request old new wanted status e h)
 

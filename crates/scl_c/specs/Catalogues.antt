@@ -7,14 +7,8 @@ use Rattle.scl_catalogue_text.specs.Wrong.{IsWrong}
 use Rattle.scl_catalogue_text.specs.declared.mistake.BadLine.{BadLine}
 use Rattle.scl_catalogue_text.specs.declared.mistake.ReadError.{ReadError}
 use Rattle.scl_catalogue_text.specs.declared.mistake.ReadError.TheVariants as error
-use Rattle.scl_effects_default.specs.Names.{plain_names}
-use Rattle.scl_hazards.specs.Hazards.{Tables}
 use Rattle.scl_requests.specs.Requests.{AnswersBytes}
 use Rattle.scl_c.specs.Described.{IsDescribed}
-
--- what is known by a catalogue, with the plain names that are built in
-abbrev pub tables_with : Catalogue → Tables
-tables_with catalogue = record { catalogue = catalogue; plain = plain_names }
 
 -- No catalogue is read: its text has a wrong line, of this number first, or memory was refused.
 pub record IsUnread (line : ℕ) (old new : List ℕ) (wanted : ℕ) (status : ℤ) : Type 0 where
@@ -30,13 +24,13 @@ IsUnreadBy error.Memory wanted status = (wanted ≡ 0) × (status ≡ pos 3)
 
 -- What a call gives, by its status and by what is read of the catalogue's text.
 abbrev pub IsDescribedBy : Result Catalogue BadLine → List ℕ → List ℕ → List ℕ → ℕ → ℤ → Type 0
-IsDescribedBy (Ok catalogue) request old new wanted status = IsDescribed (AnswersBytes (tables_with catalogue) request) request old new wanted status
+IsDescribedBy (Ok catalogue) request old new wanted status = IsDescribed (AnswersBytes catalogue request) request old new wanted status
 IsDescribedBy (Err bad) request old new wanted status = IsUnread bad.line old new wanted status
 
 -- What a call gives, by what is read of a catalogue's text where a description is requested, and else whatever the catalogue is.
 abbrev pub IsDescribedWhere : (is_described : Bool) → Result Catalogue BadLine → List ℕ → List ℕ → List ℕ → ℕ → ℤ → Type 0
 IsDescribedWhere true read request old new wanted status = IsDescribedBy read request old new wanted status
-IsDescribedWhere false read request old new wanted status = (catalogue : Catalogue) → IsDescribed (AnswersBytes (tables_with catalogue) request) request old new wanted status
+IsDescribedWhere false read request old new wanted status = (catalogue : Catalogue) → IsDescribed (AnswersBytes catalogue request) request old new wanted status
 
 -- The lines of a catalogue's text before the one of this number are read, and it is not.
 pub record IsFirstWrongLine (text : List ℕ) (number : ℕ) : Type 0 where

@@ -4,16 +4,15 @@ ghost use Rattle.scl_catalogue.specs.Views.{catalogue_of};
 ghost use Rattle.scl_requests.specs.Requests.{AnswersBytes};
 ghost use Rattle.scl_catalogue_default.specs.Text.{built_in_text};
 ghost use Rattle.scl_catalogue_text.specs.Lines.{read};
-ghost use Rattle.scl_c.specs.Catalogues.{IsDescribedBy, tables_with};
+ghost use Rattle.scl_c.specs.Catalogues.{IsDescribedBy};
 ghost use Rattle.scl_c.specs.Described.{is_setting, line_at, AsksReadAgain, IsDescribed};
 
 use crate::catalogue::unread;
 use crate::status::{BAD, NEWER};
 use crate::text::respond;
 use scl_catalogue_default::built_in;
-use scl_describe::{Catalogue, Tables};
+use scl_describe::Catalogue;
 use scl_description::{cut_at, next_line};
-use scl_effects_default::plain_names;
 use scl_requests::Requests;
 use std::alloc::Global;
 
@@ -52,13 +51,9 @@ pub(crate) fn describe_by(
     room: &mut [u8],
     wanted: &mut usize,
 ) -> i32
-    ensures { IsDescribed (AnswersBytes (tables_with (catalogue_of catalogue.now)) request.now) request.now room.old room.new wanted.new result }
+    ensures { IsDescribed (AnswersBytes (catalogue_of catalogue.now) request.now) request.now room.old room.new wanted.new result }
 {
-    let tables = Tables {
-        catalogue,
-        plain: plain_names(),
-    };
-    let status = respond(alloc, &Requests { tables }, request, room, wanted);
+    let status = respond(alloc, &Requests { catalogue }, request, room, wanted);
     if status != BAD {
         return status;
     }

@@ -5,7 +5,7 @@ ghost use types.Logic.{sem};
 ghost use Rattle.scl_catalogue.specs.Views.{catalogue_of};
 ghost use Rattle.scl_catalogue.specs.declared.catalogue.Catalogue.{Catalogue};
 ghost use Rattle.scl_requests.specs.Requests.{AnswersBytes};
-ghost use Rattle.scl_c.specs.Catalogues.{tables_with, IsMade};
+ghost use Rattle.scl_c.specs.Catalogues.{IsMade};
 ghost use Rattle.scl_c.specs.Described.{AsksReadAgain, IsDescribed};
 ghost use Rattle.scl_c.specs.Memory.{handed, lease, owned};
 
@@ -49,7 +49,7 @@ pub unsafe extern "C" fn scl_catalogue_describe(
     ghost g: { (Lft × Share) × Catalogue }
     requires* { sem 𝓛 (lease g.0 handle g.1) }
     ensures* given_back { sem 𝓛 (lease g.0 handle g.1) }
-    ensures told { IsDescribed (AnswersBytes (tables_with (catalogue_of g.1)) request.now) request.now room.old room.new wanted.new result }
+    ensures told { IsDescribed (AnswersBytes (catalogue_of g.1) request.now) request.now room.old room.new wanted.new result }
     ensures read_again { result ≡ pos 0 → AsksReadAgain request.now }
 {
     describe_by(alloc, &*(handle as *const Catalogue), request, room, wanted)

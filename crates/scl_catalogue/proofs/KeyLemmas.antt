@@ -15,29 +15,29 @@ use Rattle.scl_catalogue.specs.declared.test.Class.TheVariants as class
 use Rattle.scl_catalogue.specs.declared.text.How.{How}
 use Rattle.scl_catalogue.specs.declared.text.How.TheVariants as how
 
-and-left : (a b : Bool) → (a && b) ≡ true → a ≡ true
+pub and-left : (a b : Bool) → (a && b) ≡ true → a ≡ true
 and-left true b h = refl
 and-left false b h = h
 
-and-right : (a b : Bool) → (a && b) ≡ true → b ≡ true
+pub and-right : (a b : Bool) → (a && b) ≡ true → b ≡ true
 and-right true b h = h
 and-right false b h = let no : false ≡ true = h in cc
 
 both : (a b : Bool) → a ≡ true → b ≡ true → (a && b) ≡ true
 both a b h k = rw (h, k) refl
 
-or-true : (a b : Bool) → b ≡ true → (a || b) ≡ true
+pub or-true : (a b : Bool) → b ≡ true → (a || b) ≡ true
 or-true true b h = refl
 or-true false b h = h
 
 -- ---- the numbers of options, put together
 
-set-there : (ns : List Bool) (n : ℕ) → unwrap_or (slice_get (slice_set ns n true) n) true ≡ true
+pub set-there : (ns : List Bool) (n : ℕ) → unwrap_or (slice_get (slice_set ns n true) n) true ≡ true
 set-there [] n = refl
 set-there (b ∷ bs) zero = refl
 set-there (b ∷ bs) (suc n) = set-there bs n
 
-set-kept : (ns : List Bool) (n m : ℕ) → unwrap_or (slice_get ns m) true ≡ true → unwrap_or (slice_get (slice_set ns n true) m) true ≡ true
+pub set-kept : (ns : List Bool) (n m : ℕ) → unwrap_or (slice_get ns m) true ≡ true → unwrap_or (slice_get (slice_set ns n true) m) true ≡ true
 set-kept [] n m h = refl
 set-kept (b ∷ bs) zero zero h = refl
 set-kept (b ∷ bs) zero (suc m) h = h
@@ -74,7 +74,7 @@ all_keyed k (o ∷ os) = both _ _ (kept-all (added k o) o os (keyed-there k o.st
 
 -- ---- words that a pattern fits have its number
 
-bytes-same : (xs ys : List ℕ) → bytes_eq xs ys ≡ true → xs ≡ ys
+pub bytes-same : (xs ys : List ℕ) → bytes_eq xs ys ≡ true → xs ≡ ys
 bytes-same [] [] h = refl
 bytes-same [] (y ∷ ys) h = let no : false ≡ true = h in cc
 bytes-same (x ∷ xs) [] h = let no : false ≡ true = h in cc
@@ -90,7 +90,7 @@ either : (b : Bool) (ns : List Bool) (n : ℕ) → unwrap_or (slice_get ns n) tr
 either true ns n h = refl
 either false ns n h = h
 
-begins-number : (a b c : ℕ) (ts word : List ℕ) → starts_with nat_eq word (a ∷ b ∷ c ∷ ts) ≡ true → number (a ∷ b ∷ c ∷ ts) ≡ number word
+pub begins-number : (a b c : ℕ) (ts word : List ℕ) → starts_with nat_eq word (a ∷ b ∷ c ∷ ts) ≡ true → number (a ∷ b ∷ c ∷ ts) ≡ number word
 begins-number a b c ts [] h = let no : false ≡ true = h in cc
 begins-number a b c ts (x ∷ []) h = let no : false ≡ true = and-right (nat_eq a x) false h in cc
 begins-number a b c ts (x ∷ y ∷ []) h = let no : false ≡ true = and-right (nat_eq b y) false (and-right (nat_eq a x) (nat_eq b y && false) h) in cc

@@ -1,2 +1,3 @@
 pub mod AnyLemmas
 pub mod KeyLemmas
+pub mod NumberLemmas

@@ -3,10 +3,12 @@ use Rattle.std.specs.Prelude.{ℕ, Bool, List, Option}
 use Rattle.scl_catalogue.specs.declared.case.Served.{Served}
 use Rattle.scl_catalogue.specs.declared.condition.Fact.{Fact}
 use Rattle.scl_catalogue.specs.declared.condition.Place.{Place}
+use Rattle.scl_catalogue.specs.declared.entry.Brings as declared
 use Rattle.scl_catalogue.specs.declared.entry.Danger.{Danger}
 use Rattle.scl_catalogue.specs.declared.entry.Doing.{Doing}
 use Rattle.scl_catalogue.specs.declared.entry.Naming.{Naming}
 use Rattle.scl_catalogue.specs.declared.entry.Verb.{Verb}
+use Rattle.scl_catalogue.specs.declared.numbers.NumberSet.{NumberSet}
 use Rattle.scl_catalogue.specs.declared.seen.Mark.{Mark}
 use Rattle.scl_catalogue.specs.declared.test.Class.{Class}
 use Rattle.scl_catalogue.specs.declared.text.How.{How}
@@ -63,22 +65,24 @@ pub record Case : Type 0 where
   pub served : List Served
   pub conditions : List Condition
 
--- what an entry states: a hazard and what becomes of it; something that is read, written, asked or loaded; a reason; that nothing
--- of the kind is done; what a key has to answer for, in a compilation or in a run of the preprocessor; or what the object names
+-- what an entry states: a hazard and what becomes of it; something that is read, written, asked or loaded; that nothing of the kind is
+-- done; what a key has to answer for, in a compilation or in a run of the preprocessor; what the object names; or what is brought in
 pub data Tells : Type 0 where
   Hazard : Danger → Tells
   Effect : Verb → List ℕ → Tells
-  Reason : Tells
   Plain : Tells
   Key : Doing → Tells
   Run : Doing → Tells
   Names : Naming → Tells
+  Brings : declared.Brings → Tells
 
 pub record Entry : Type 0 where
   pub tells : Tells
   pub name : List ℕ
   pub says : List ℕ
   pub cases : List Case
+  -- the numbers of the options of which they speak
+  pub numbers : NumberSet
 
 pub record Catalogue : Type 0 where
   pub groups : List Group

@@ -4,4 +4,6 @@ pub mod Keyed
 pub mod Speaking
 pub mod Views
 pub mod Lookup
+pub mod Numbered
 pub mod Over
+pub mod Laws

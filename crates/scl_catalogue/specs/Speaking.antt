@@ -4,6 +4,7 @@ use Rattle.std.specs.List.{list_any}
 use Rattle.scl_catalogue.specs.Form.{Relation, Question, Is, At, Given, Inner, Condition, Case, Entry}
 use Rattle.scl_catalogue.specs.Found.{OptionSeen, in_group, serves}
 use Rattle.scl_catalogue.specs.Keyed.{first_group}
+use Rattle.scl_catalogue.specs.Numbered.{may_have, numbers_of}
 use Rattle.scl_catalogue.specs.declared.case.Compiler.{Compiler}
 use Rattle.scl_catalogue.specs.declared.case.Version.{Version}
 use Rattle.scl_catalogue.specs.declared.speaking.Level.{Level}
@@ -32,6 +33,6 @@ asks_for level o c = not c.is_denied && begins_with o (relation_at level c.quest
 abbrev pub case_speaks_of : Compiler → Option Version → Level → OptionSeen → Case → Bool
 case_speaks_of compiler version level o c = list_any (serves compiler version) c.served && list_any (asks_for level o) c.conditions
 
--- one of the cases speaks of the option
+-- one of the cases speaks of the option; one whose numbers the entry has not is passed over
 unfoldable pub speaks_of : Compiler → Option Version → Level → OptionSeen → Entry → Bool
-speaks_of compiler version level o e = list_any (case_speaks_of compiler version level o) e.cases
+speaks_of compiler version level o e = may_have e.numbers (numbers_of o) && list_any (case_speaks_of compiler version level o) e.cases

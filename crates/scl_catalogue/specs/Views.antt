@@ -1,5 +1,5 @@
 -- What the code's catalogues and lines hold.
-use Rattle.std.specs.Prelude.{ℕ, List, Option, map}
+use Rattle.std.specs.Prelude.{ℕ, List, [], ◌∷◌, Option, drop, map, take}
 use Rattle.std.specs.Option.{option_copied}
 use Rattle.scl_values.specs.Words.{words_of}
 use Rattle.scl_catalogue.specs.Form as form
@@ -13,9 +13,10 @@ use Rattle.scl_catalogue.specs.declared.entry.Entry.{Entry}
 use Rattle.scl_catalogue.specs.declared.entry.Tells.{Tells}
 use Rattle.scl_catalogue.specs.declared.entry.Tells.TheVariants as tells
 use Rattle.scl_catalogue.specs.declared.line.Line.{Line}
+use Rattle.scl_catalogue.specs.declared.lookup.Flagged as code
 use Rattle.scl_catalogue.specs.declared.lookup.Lexicon as declared
 use Rattle.scl_catalogue.specs.declared.lookup.Stated.{Stated}
-use Rattle.scl_catalogue.specs.Lookup.{Lexicon, Said}
+use Rattle.scl_catalogue.specs.Lookup.{Flagged, Lexicon, Said}
 use Rattle.scl_catalogue.specs.declared.relation.Relation.{Relation}
 use Rattle.scl_catalogue.specs.declared.relation.Relation.TheVariants as relation
 use Rattle.scl_catalogue.specs.declared.seen.Seen.{Seen}
@@ -23,14 +24,20 @@ use Rattle.scl_catalogue.specs.declared.test.Demand.{Demand}
 use Rattle.scl_catalogue.specs.declared.test.Demand.TheVariants as demand
 use Rattle.scl_catalogue.specs.declared.test.Group.{Group}
 use Rattle.scl_catalogue.specs.declared.test.Test.{Test}
-use Rattle.scl_catalogue.specs.declared.text.Pattern.{Pattern}
+use Rattle.scl_catalogue.specs.declared.text.Cut.{Cut}
+use Rattle.scl_catalogue.specs.declared.text.Patterns.{Patterns}
 use Rattle.scl_catalogue.specs.declared.text.Text.{Text}
 
-abbrev pub pattern_of : Pattern → form.Pattern
-pattern_of p = record { how = p.how; text = p.text.items }
+-- the patterns whose texts stand one behind the other
+abbrev pub cut_up : List ℕ → List Cut → List form.Pattern
+cut_up bs [] = []
+cut_up bs (c ∷ cs) = record { how = c.how; text = take c.length bs } ∷ cut_up (drop c.length bs) cs
+
+abbrev pub patterns_of : Patterns → List form.Pattern
+patterns_of p = cut_up p.texts.items p.cuts.items
 
 abbrev pub text_of : Text → form.Text
-text_of t = record { any = map pattern_of t.any.items; but = map pattern_of t.but.items }
+text_of t = record { any = patterns_of t.any; but = patterns_of t.but }
 
 abbrev pub demand_of : Demand → form.Demand
 demand_of (demand.Marked m) = form.Marked m
@@ -65,14 +72,14 @@ case_of c = record { served = c.served.items; conditions = map condition_of c.co
 abbrev pub tells_of : Tells → form.Tells
 tells_of (tells.Hazard d) = form.Hazard d
 tells_of (tells.Effect v file) = form.Effect v file.items
-tells_of tells.Reason = form.Reason
 tells_of tells.Plain = form.Plain
 tells_of (tells.Key d) = form.Key d
 tells_of (tells.Run d) = form.Run d
 tells_of (tells.Names n) = form.Names n
+tells_of (tells.Brings b) = form.Brings b
 
 abbrev pub entry_of : Entry → form.Entry
-entry_of e = record { tells = tells_of e.tells; name = e.name.items; says = e.says.items; cases = map case_of e.cases.items }
+entry_of e = record { tells = tells_of e.tells; name = e.name.items; says = e.says.items; cases = map case_of e.cases.items; numbers = e.numbers }
 
 abbrev pub catalogue_of : Catalogue → form.Catalogue
 catalogue_of c = record { groups = map group_of c.groups.items; entries = map entry_of c.entries.items }
@@ -80,8 +87,18 @@ catalogue_of c = record { groups = map group_of c.groups.items; entries = map en
 abbrev pub said_of : {A : Type 0} → Stated A → Said A
 said_of s = record { says = s.says; entry = entry_of s.entry.now }
 
+abbrev pub flagged_of : code.Flagged → Flagged
+flagged_of f = record { brings = f.brings; words = text_of f.words.now }
+
 abbrev pub lexicon_of : declared.Lexicon → Lexicon
-lexicon_of l = record { compiler = l.compiler; version = l.version; key = map said_of l.key.items; run = map said_of l.run.items; names = map said_of l.names.items }
+lexicon_of l = record {
+  compiler = l.compiler;
+  version = l.version;
+  key = map said_of l.key.items;
+  run = map said_of l.run.items;
+  names = map said_of l.names.items;
+  brings = map flagged_of l.brings.items;
+}
 
 abbrev pub seen_of : Seen → OptionSeen
 seen_of o = record { standing = o.standing; name = o.name.now; kind = o.kind.now; value = o.value.now; marks = o.marks }

@@ -4,11 +4,13 @@ ghost use Rattle.std.specs.List.{list_all, list_any};
 ghost use Rattle.scl_values.specs.Words.{words_of};
 ghost use Rattle.scl_catalogue.specs.Found.{condition_holds, is_so, passes, words_at};
 ghost use Rattle.scl_catalogue.specs.Keyed.{is_keyed};
-ghost use Rattle.scl_catalogue.specs.Views.{condition_of, line_of, question_of, seen_of, text_of};
+ghost use Rattle.scl_catalogue.specs.Lookup.{tests_asked};
+ghost use Rattle.scl_catalogue.specs.Views.{condition_of, line_of, question_of, seen_of, test_of, text_of};
 
 use crate::keys::Keys;
 use crate::line::Line;
 use crate::relation::Relation;
+use crate::test::Test;
 use crate::text::Text;
 
 /// What is known of a line besides its words and options.
@@ -147,6 +149,19 @@ impl Question {
 }
 
 impl Condition {
+    /// The tests of which an option of the line has to pass one, if the condition asks for an option.
+    pub(crate) fn tests_asked(&self) -> &[Test]
+        ensures { map test_of result.now ≡ tests_asked (condition_of self.now) }
+    {
+        if self.is_denied {
+            return &[];
+        }
+        match &self.question {
+            Question::Given(relation) => &relation.first().tests,
+            Question::Inner(_) | Question::Is(_) | Question::At(_, _) => &[],
+        }
+    }
+
     /// Whether it holds of the line, whose options have these numbers.
     pub(crate) fn holds(&self, line: &Line<'_>, keys: &LineKeys) -> bool
         requires options { list_all (is_keyed keys.now.options) (map seen_of line.now.options.now) ≡ true }

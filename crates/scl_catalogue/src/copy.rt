@@ -1,24 +1,19 @@
 //! Copies of groups, for the conditions that name them.
 ghost use Rattle.std.specs.Prelude.{◌≡◌, map, IfOk};
-ghost use Rattle.scl_catalogue.specs.Views.{demand_of, group_of, pattern_of, test_of, text_of};
+ghost use Rattle.scl_catalogue.specs.Views.{demand_of, group_of, patterns_of, test_of, text_of};
 
 use crate::test::{Demand, Group, Test};
-use crate::text::{Pattern, Text};
+use crate::text::{Patterns, Text};
 use scl_values::Mem;
 use std::alloc::Global;
 
-fn patterns(alloc: Global, all: &[Pattern]) -> Mem<Vec<Pattern>>
-    ensures { IfOk result (λ copies. map pattern_of copies.items ≡ map pattern_of all.now) }
+fn patterns(alloc: Global, patterns: &Patterns) -> Mem<Patterns>
+    ensures { IfOk result (λ copy. patterns_of copy ≡ patterns_of patterns.now) }
 {
-    let mut copies = Vec::with_capacity(alloc, all.len())?;
-    for pattern in all {
-        let text = Vec::from_slice(alloc, &pattern.text)?;
-        copies.push(Pattern {
-            how: pattern.how,
-            text,
-        })?;
-    }
-    Ok(copies)
+    Ok(Patterns {
+        texts: Vec::from_slice(alloc, &patterns.texts)?,
+        cuts: Vec::from_slice(alloc, &patterns.cuts)?,
+    })
 }
 
 fn text(alloc: Global, text: &Text) -> Mem<Text>

@@ -1,13 +1,15 @@
 //! What is known of compilers, entry by entry.
 ghost use Rattle.std.specs.Prelude.{◌≡◌, true, map};
 ghost use Rattle.std.specs.List.{list_all};
+ghost use Rattle.scl_catalogue.specs.Numbered.{entry_with, may_have};
 ghost use Rattle.scl_catalogue.specs.Found.{is_there};
 ghost use Rattle.scl_catalogue.specs.Keyed.{is_keyed};
-ghost use Rattle.scl_catalogue.specs.Views.{entry_of, line_of, seen_of};
+ghost use Rattle.scl_catalogue.specs.Views.{case_of, entry_of, line_of, seen_of, tells_of};
 
 use crate::case::Case;
 use crate::condition::LineKeys;
 use crate::line::Line;
+use crate::numbers::{NumberSet, Numbers};
 
 /// What becomes of a hazard.
 #[derive(Clone, Copy, Debug, PartialEq, Eq)]
@@ -73,6 +75,23 @@ pub enum Naming {
     Anything,
 }
 
+/// What a word of the preprocessor brings in.
+#[derive(Clone, Copy, Debug, PartialEq, Eq)]
+pub enum Brings {
+    /// A folder in which headers are searched.
+    Folder,
+    /// A header that is included first.
+    Header,
+    /// A file of which only the macros are read.
+    MacroFile,
+    /// What else the text of a run shows.
+    Other,
+    /// A file of dependencies, which a run writes too.
+    Dependencies,
+    /// What a text may not show.
+    Unknown,
+}
+
 /// What an entry states.
 #[derive(Debug, Drop)]
 pub enum Tells {
@@ -80,8 +99,6 @@ pub enum Tells {
     Hazard(Danger),
     /// The compiler reads, writes or asks what the name's pattern says.
     Effect(Verb, Vec<u8>),
-    /// Why a line is answered as it is.
-    Reason,
     /// The options of its groups read, write and ask nothing except what other entries state.
     Plain,
     /// What its options do that a key has to answer for.
@@ -90,6 +107,8 @@ pub enum Tells {
     Run(Doing),
     /// What its options make the object name.
     Names(Naming),
+    /// What its options bring in, where they are words of the preprocessor.
+    Brings(Brings),
 }
 
 /// An entry of a catalogue.
@@ -103,9 +122,32 @@ pub struct Entry {
     pub says: Vec<u8>,
     /// The cases in which it is there.
     pub cases: Vec<Case>,
+    /// The numbers of the options of which they speak.
+    numbers: NumberSet,
 }
 
 impl Entry {
+    /// The entry that states this, with these cases.
+    pub fn new(tells: Tells, name: Vec<u8>, says: Vec<u8>, cases: Vec<Case>) -> Entry
+        ensures { entry_of result ≡ entry_with (tells_of tells) name.items says.items (map case_of cases.items) }
+    {
+        let numbers = NumberSet::of(&cases);
+        Entry {
+            tells,
+            name,
+            says,
+            cases,
+            numbers,
+        }
+    }
+
+    /// Whether it may speak of an option that has these numbers.
+    pub fn may_speak(&self, numbers: &Numbers) -> bool
+        ensures { result ≡ may_have (entry_of self.now).numbers numbers.now }
+    {
+        self.numbers.may_have(numbers)
+    }
+
     /// Whether the entry is there in a line whose options have these numbers.
     pub(crate) fn is_there(&self, line: &Line<'_>, keys: &LineKeys) -> bool
         requires options { list_all (is_keyed keys.now.options) (map seen_of line.now.options.now) ≡ true }

@@ -2,12 +2,12 @@
 ghost use Rattle.std.specs.Prelude.{◌≡◌, true, false, map, unwrap_or, slice_index, slice_get};
 ghost use Rattle.std.specs.List.{list_all, list_any};
 ghost use Rattle.scl_catalogue.specs.Found.{in_group};
-ghost use Rattle.scl_catalogue.specs.Keyed.{added, is_keyed, key_of, may_fit, may_have, may_pass, number};
-ghost use Rattle.scl_catalogue.specs.Views.{group_of, pattern_of, seen_of, test_of, text_of};
+ghost use Rattle.scl_catalogue.specs.Keyed.{added, is_keyed, key_by, may_be, may_have, may_pass, number};
+ghost use Rattle.scl_catalogue.specs.Views.{group_of, seen_of, test_of, text_of};
 
 use crate::seen::{Seen, Standing};
 use crate::test::{Class, Group, Test};
-use crate::text::{How, Pattern, Text};
+use crate::text::{How, Text, cut_off};
 
 /// How many numbers there are.
 const NUMBERS: usize = 64;
@@ -33,7 +33,7 @@ fn byte_at(word: &[u8], index: usize) -> usize
 }
 
 /// The number of a word, by its second and third byte.
-fn number(word: &[u8]) -> usize
+pub(crate) fn number(word: &[u8]) -> usize
     ensures { result ≡ number word.now }
 {
     (byte_at(word, 1) * 5 + byte_at(word, 2)) % NUMBERS
@@ -81,28 +81,28 @@ impl Keys {
     }
 }
 
-/// The number of each word that the pattern fits, where they have one.
-fn key_of(pattern: &Pattern) -> Option<usize>
-    ensures { result ≡ key_of (pattern_of pattern.now) }
+/// The number of each word that a pattern of this text fits, where they have one.
+pub(crate) fn key_of(how: How, text: &[u8]) -> Option<usize>
+    ensures { result ≡ key_by how text.now }
 {
-    match pattern.how {
-        How::Is => Some(number(&pattern.text)),
+    match how {
+        How::Is => Some(number(text)),
         How::Begins => {
-            if pattern.text.len() < 3 {
+            if text.len() < 3 {
                 None
             } else {
-                Some(number(&pattern.text))
+                Some(number(text))
             }
         }
         How::Ends | How::Holds => None,
     }
 }
 
-/// Whether the pattern may fit a word that has one of these numbers.
-fn may_fit(pattern: &Pattern, numbers: &[bool; 64]) -> bool
-    ensures { result ≡ may_fit numbers.now (pattern_of pattern.now) }
+/// Whether a pattern of this text may fit a word that has one of these numbers.
+fn may_fit(how: How, text: &[u8], numbers: &[bool; 64]) -> bool
+    ensures { result ≡ may_be numbers.now (key_by how text.now) }
 {
-    match key_of(pattern) {
+    match key_of(how, text) {
         Some(number) => match numbers.get(number) {
             Some(is_there) => *is_there,
             None => true,
@@ -114,10 +114,13 @@ fn may_fit(pattern: &Pattern, numbers: &[bool; 64]) -> bool
 fn may_have(text: &Text, numbers: &[bool; 64]) -> bool
     ensures { result ≡ may_have numbers.now (text_of text.now) }
 {
-    for pattern in &text.any {
-        if may_fit(pattern, numbers) {
+    let mut left = text.any.texts.as_slice();
+    for cut in &text.any.cuts {
+        let (text, others) = cut_off(left, cut.length);
+        if may_fit(cut.how, text, numbers) {
             return true;
         }
+        left = others;
     }
     false
 }

@@ -1,13 +1,18 @@
 //! What a catalogue says of a word of a command.
-ghost use Rattle.std.specs.Prelude.{◌≡◌, map, IfOk, OnOk};
-ghost use Rattle.scl_catalogue.specs.Lookup.{doing_of, first_said, lexicon_in, naming_of, running_of, with_entry, word_seen};
-ghost use Rattle.scl_catalogue.specs.Views.{catalogue_of, entry_of, lexicon_of, said_of, seen_of};
+ghost use Rattle.std.specs.Prelude.{◌≡◌, ◌++◌, map, IfOk, OnOk};
+ghost use Rattle.std.specs.List.{flat_map};
+ghost use Rattle.scl_catalogue.specs.Lookup.{brought_by, doing_of, first_brought, first_said, flagged_by, flagged_case, flagged_condition, lexicon_in, naming_of, running_of, with_entry, with_flagged, word_seen};
+ghost use Rattle.scl_catalogue.specs.Views.{case_of, catalogue_of, condition_of, entry_of, flagged_of, lexicon_of, said_of, seen_of, test_of};
 
-use crate::case::{Compiler, Version};
+use crate::case::{Case, Compiler, Version, serves};
 use crate::catalogue::Catalogue;
-use crate::entry::{Doing, Entry, Naming, Tells};
+use crate::condition::Condition;
+use crate::entry::{Brings, Doing, Entry, Naming, Tells};
+use crate::numbers::Numbers;
 use crate::seen::{Marks, Seen, Standing};
 use crate::speaking::Level;
+use crate::test::Test;
+use crate::text::Text;
 use scl_values::Mem;
 use std::alloc::Global;
 
@@ -18,6 +23,22 @@ struct Stated<'a, T> {
     entry: &'a Entry,
 }
 
+/// What words bring in, and which words.
+#[derive(Clone, Copy, Debug)]
+struct Flagged<'a> {
+    brings: Brings,
+    words: &'a Text,
+}
+
+/// What a word brings in, and where its value begins.
+#[derive(Clone, Copy, Debug, PartialEq, Eq)]
+pub struct Brought {
+    /// What it brings in.
+    pub brings: Brings,
+    /// How many of its bytes stand before its value; where they are all, the next word is the value.
+    pub front: usize,
+}
+
 /// What a catalogue says of the words of one compiler's command. It is made once, and asked of each word.
 #[derive(Debug, Drop)]
 pub struct Lexicon<'a> {
@@ -26,6 +47,7 @@ pub struct Lexicon<'a> {
     key: Vec<Stated<'a, Doing>>,
     run: Vec<Stated<'a, Doing>>,
     names: Vec<Stated<'a, Naming>>,
+    brings: Vec<Flagged<'a>>,
 }
 
 /// A word of a command, as an option that no row fits.
@@ -48,6 +70,7 @@ fn word_seen(word: &[u8]) -> Seen<'_>
 }
 
 /// What the first of these entries states that speaks of the word.
+#[tactic(auto, unfolding(crate::specs::Speaking::speaks_of))]
 fn first_said<T: Copy>(
     all: &[Stated<'_, T>],
     compiler: Compiler,
@@ -56,15 +79,74 @@ fn first_said<T: Copy>(
 ) -> Option<T>
     ensures { result ≡ first_said compiler version (seen_of word.now) (map said_of all.now) }
 {
+    let numbers = Numbers::of(word);
     for one in all {
-        if one.entry.speaks_of(compiler, version, Level::Outer, word) {
+        if one.entry.may_speak(&numbers)
+            && one.entry.speaks_of(compiler, version, Level::Outer, word)
+        {
             return Some(one.says);
         }
     }
     None
 }
 
+/// Appends the words of the tests that words may pass of which it is only known how they are written.
+fn push_tests<'a>(flagged: &mut Vec<Flagged<'a>>, brings: Brings, tests: &'a [Test]) -> Mem<()>
+    ensures { OnOk result (map flagged_of flagged.new.items ≡ map flagged_of flagged.old.items ++ flat_map (flagged_by brings) (map test_of tests.now)) }
+{
+    for test in tests {
+        if test.class.is_of(Standing::Unknown) {
+            flagged.push(Flagged {
+                brings,
+                words: &test.names,
+            })?;
+        }
+    }
+    Ok(())
+}
+
+/// Appends the words for which conditions ask.
+fn push_conditions<'a>(
+    flagged: &mut Vec<Flagged<'a>>,
+    brings: Brings,
+    conditions: &'a [Condition],
+) -> Mem<()>
+    ensures { OnOk result (map flagged_of flagged.new.items ≡ map flagged_of flagged.old.items ++ flat_map (flagged_condition brings) (map condition_of conditions.now)) }
+{
+    for condition in conditions {
+        push_tests(flagged, brings, condition.tests_asked())?;
+    }
+    Ok(())
+}
+
+/// What the first of these says that a word brings in.
+fn first_brought(all: &[Flagged<'_>], word: &[u8]) -> Option<Brought>
+    ensures { result ≡ first_brought (map flagged_of all.now) word.now }
+{
+    for one in all {
+        if let Some(front) = one.words.front_of(word) {
+            return Some(Brought {
+                brings: one.brings,
+                front,
+            });
+        }
+    }
+    None
+}
+
 impl<'a> Lexicon<'a> {
+    /// Adds the words of which the cases that are meant speak.
+    fn add_flagged(&mut self, brings: Brings, cases: &'a [Case]) -> Mem<()>
+        ensures { OnOk result (lexicon_of self.new ≡ with_flagged (lexicon_of self.old) (flat_map (flagged_case (lexicon_of self.old).compiler (lexicon_of self.old).version brings) (map case_of cases.now))) }
+    {
+        for case in cases {
+            if serves(&case.served, self.compiler, self.version) {
+                push_conditions(&mut self.brings, brings, &case.conditions)?;
+            }
+        }
+        Ok(())
+    }
+
     /// Adds what the entry states of words, if it does.
     fn add(&mut self, entry: &'a Entry) -> Mem<()>
         ensures { OnOk result (lexicon_of self.new ≡ with_entry (lexicon_of self.old) (entry_of entry.now)) }
@@ -73,7 +155,8 @@ impl<'a> Lexicon<'a> {
             Tells::Key(says) => self.key.push(Stated { says: *says, entry })?,
             Tells::Run(says) => self.run.push(Stated { says: *says, entry })?,
             Tells::Names(says) => self.names.push(Stated { says: *says, entry })?,
-            Tells::Hazard(_) | Tells::Effect(_, _) | Tells::Reason | Tells::Plain => {}
+            Tells::Brings(brings) => self.add_flagged(*brings, &entry.cases)?,
+            Tells::Hazard(_) | Tells::Effect(_, _) | Tells::Plain => {}
         }
         Ok(())
     }
@@ -93,6 +176,7 @@ impl<'a> Lexicon<'a> {
             key: Vec::new(alloc),
             run: Vec::new(alloc),
             names: Vec::new(alloc),
+            brings: Vec::new(alloc),
         };
         for entry in &catalogue.entries {
             lexicon.add(entry)?;
@@ -126,5 +210,12 @@ impl<'a> Lexicon<'a> {
     {
         let word = word_seen(word);
         first_said(&self.names, self.compiler, self.version, &word).unwrap_or(Naming::Anything)
+    }
+
+    /// What the word brings in, where it is one of the preprocessor; `None` if no entry says so.
+    pub fn brought_by(&self, word: &[u8]) -> Option<Brought>
+        ensures { result ≡ brought_by (lexicon_of self.now) word.now }
+    {
+        first_brought(&self.brings, word)
     }
 }

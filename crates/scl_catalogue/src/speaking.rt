@@ -7,6 +7,7 @@ ghost use Rattle.scl_catalogue.specs.Views.{case_of, condition_of, entry_of, que
 use crate::case::{Case, Compiler, Version, serves};
 use crate::condition::{Condition, Question};
 use crate::entry::Entry;
+use crate::numbers::Numbers;
 use crate::relation::Relation;
 use crate::seen::Seen;
 
@@ -57,6 +58,23 @@ impl Case {
     }
 }
 
+fn one_speaks(
+    cases: &[Case],
+    compiler: Compiler,
+    version: Option<Version>,
+    level: Level,
+    option: &Seen<'_>,
+) -> bool
+    ensures { result ≡ list_any (case_speaks_of compiler version level (seen_of option.now)) (map case_of cases.now) }
+{
+    for case in cases {
+        if case.speaks_of(compiler, version, level, option) {
+            return true;
+        }
+    }
+    false
+}
+
 impl Entry {
     /// Whether a case that serves this version of the compiler asks that an option stand, and this one is such. So also of an
     /// entry that is not there since another condition does not hold.
@@ -70,11 +88,7 @@ impl Entry {
     ) -> bool
         ensures { result ≡ speaks_of compiler version level (seen_of option.now) (entry_of self.now) }
     {
-        for case in &self.cases {
-            if case.speaks_of(compiler, version, level, option) {
-                return true;
-            }
-        }
-        false
+        self.may_speak(&Numbers::of(option))
+            && one_speaks(&self.cases, compiler, version, level, option)
     }
 }

@@ -54,7 +54,7 @@ pub struct Group {
 }
 
 impl Class {
-    fn is_of(self, standing: Standing) -> bool
+    pub(crate) fn is_of(self, standing: Standing) -> bool
         ensures { result ≡ is_of self standing }
     {
         match self {

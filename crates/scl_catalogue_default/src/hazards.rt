@@ -69,6 +69,9 @@ group CL_OUTPUT: kind output
 group CL_JOINED_OUTPUT: unknown -o* ! -openmp -openmp- -openmp:experimental
 group CL_FATAL: flag -WX /WX | unknown -Werror -Werror=unknown-argument
 group CL_DEBUG: flag -Z7 /Z7 -Zi /Zi -ZI /ZI | unknown -g*
+group CL_DEBUG_14: flag -Z7 /Z7 -Zi /Zi -ZI /ZI | unknown -g* ! -g -g0 -g1 -g2 -g3 -ggdb -ggdb0 -ggdb3 -gdwarf-2 -gdwarf-3 -gdwarf-4 -gdwarf-5 -gmodules
+group WINDOWS_TARGET: unknown *windows* *msvc* *win32* *mingw* *cygwin* *uefi* | flag -target --target & value *windows* *msvc* *win32* *mingw* *cygwin* *uefi*
+group CODEVIEW_TARGET: unknown *windows* *msvc* *win32* *mingw* *cygwin* *uefi* ! *-w64-mingw32 *-windows-gnu *-pc-cygwin | flag -target --target & value *windows* *msvc* *win32* *mingw* *cygwin* *uefi* ! *-w64-mingw32 *-windows-gnu *-pc-cygwin
 group CL_TAKING_NEXT: unknown -diasdkdir -vctoolsdir -vctoolsversion -winsdkdir -winsdkversion -winsysroot
 group CL_CUT_SHORT: flag -isystem & joined & value -after* | flag -iframework & joined & value withsysroot*
 group CL_PREPROCESSOR: flag -D /D -FI /FI -I /I -U /U -imsvc /imsvc
@@ -140,11 +143,15 @@ hazard command-in-bitcode object
 
 hazard command-in-codeview object
   says The debug information of Windows holds the built command.
-  clang since 14: any kind split-dwarf | unknown -g* --debug* ! -g0* | flag -gcodeview ; any unknown *windows* *msvc* *win32* *mingw* *cygwin* *uefi* | flag -target --target & value *windows* *msvc* *win32* *mingw* *cygwin* *uefi*
-  clang since 14: inner any flag -gcodeview ; any unknown *windows* *msvc* *win32* *mingw* *cygwin* *uefi* | flag -target --target & value *windows* *msvc* *win32* *mingw* *cygwin* *uefi*
-  clang-cl since 14: any CL_DEBUG ; inner any flag -B -D -F -I -U -u -z & apart
-  clang-cl since 14: any CL_DEBUG ; before flag -external:I /external:I & joined > CL_PREPROCESSOR
-  clang-cl since 14: any CL_DEBUG ; inner any unknown -grecord-command-line -grecord-gcc-switches
+  clang since 14: any kind split-dwarf | unknown -g* --debug* ! -g0* | flag -gcodeview ; any CODEVIEW_TARGET ; not last unknown -gno-codeview-command-line > unknown -gcodeview-command-line
+  clang since 14: any flag -gcodeview | unknown -gcodeview* ; any WINDOWS_TARGET ; not last unknown -gno-codeview-command-line > unknown -gcodeview-command-line
+  clang since 14: inner any flag -gcodeview ; any WINDOWS_TARGET
+  clang-cl since 14 until 15: any CL_DEBUG_14 ; inner any flag -B -D -F -I -U -u -z & apart
+  clang-cl since 14 until 15: any CL_DEBUG_14 ; before flag -external:I /external:I & joined > CL_PREPROCESSOR
+  clang-cl since 14 until 15: any CL_DEBUG_14 ; inner any unknown -grecord-command-line -grecord-gcc-switches
+  clang-cl since 15: any CL_DEBUG ; inner any flag -B -D -F -I -U -u -z & apart
+  clang-cl since 15: any CL_DEBUG ; before flag -external:I /external:I & joined > CL_PREPROCESSOR
+  clang-cl since 15: any CL_DEBUG ; inner any unknown -grecord-command-line -grecord-gcc-switches
 
 hazard color-stored object
   says The precompiled header, module or tree stores the colour option that is added.
@@ -157,10 +164,9 @@ hazard color-stored object
 
 hazard text-in-object object
   says Preprocessed text or dependencies go into the object's file.
-  clang: any TEXT ; not any OUTPUT
-  gcc: any TEXT ; not any OUTPUT ; not language assembler
+  gcc, clang: any TEXT ; not any OUTPUT ; not language assembler
   gcc: any TEXT ; any OUTPUT ; any NEED
-  clang: any unknown --dependencies --user-dependencies ; any NEED ; not any DEPENDENCY_RULES
+  clang: any unknown --dependencies --user-dependencies ; any NEED ; not any DEPENDENCY_RULES ; not language assembler
 
 hazard assembly-in-object object
   says Assembly text goes into the object's file.
@@ -171,7 +177,7 @@ hazard other-output-in-object object
   says Another output than an object goes into the object's file.
   clang: any unknown --migrate -emit-ast -emit-llvm -extract-api -module-file-info -rewrite-legacy-objc -rewrite-objc ; not any OUTPUT ; not language assembler assembler-with-cpp
   clang: any kind module-only-flag ; not any OUTPUT
-  clang: language assembler-with-cpp ; any unknown -frewrite-imports -frewrite-includes ; not any OUTPUT
+  clang: language assembler-with-cpp ; any unknown --migrate -emit-ast -extract-api -frewrite-imports -frewrite-includes -module-file-info -rewrite-legacy-objc -rewrite-objc | flag -verify-pch ; not any OUTPUT
 
 hazard header-in-object object
   says The precompiled header goes into the object's file.
@@ -194,6 +200,7 @@ hazard output-elsewhere object
   gcc: any kind coverage test-coverage ; any unknown -dumpbase --dumpbase -dumpdir --dumpdir
   gcc: any unknown -### --help --version --target-help -dumpfullversion -dumpmachine -dumpspecs -dumpversion -print-* --print-*
   gcc: language rs ; not any LANGUAGE
+  clang: any TEXT ; language assembler
   clang: any unknown -### -help --help --help-hidden --version -dumpmachine -dumpversion -ccc-print-* -print-* --print-* ! -print-ivar-layout -print-rocm-search-dirs --print-rocm-search-dirs
   clang-cl: last CL_JOINED_OUTPUT > CL_OUTPUT
   clang-cl: any unknown -### -help --version --analyze
@@ -201,7 +208,9 @@ hazard output-elsewhere object
   clang-cl: any flag -clang: /clang: & value --output --output=* --dependencies --preprocess --user-dependencies --assemble -S
   clang-cl: any flag -clang: /clang: & value --migrate -emit-ast -emit-llvm -extract-api -module-file-info -rewrite-legacy-objc -rewrite-objc
   clang-cl: any flag -clang: /clang: & value -### -help --help --help-hidden --version -dumpmachine -dumpversion -ccc-print-* -print-* --print-* ! -print-ivar-layout -print-rocm-search-dirs --print-rocm-search-dirs
+  clang-cl: language assembler-with-cpp ; any flag -clang: /clang: & value -frewrite-imports -frewrite-includes -verify-pch
   clang-cl: object \e
+  clang-cl since 15: any kind output & value :*
 
 hazard output-is-no-file object
   says An output goes to standard output or a device, and is no file that can be kept.
@@ -252,8 +261,10 @@ hazard extension-unknown object
 
 hazard driver-mode object
   says Clang works as another driver, by whose rules the line was not read.
-  clang: plusplus ; any unknown --driver-mode=* ! --driver-mode=g++*
-  clang: any unknown --driver-mode=* ! --driver-mode=gcc* ; not plusplus
+  clang: plusplus ; any unknown --driver-mode=* ! --driver-mode=g++* --driver-mode=gcc
+  clang: plusplus ; any unknown --driver-mode=gcc ; extension c h i ; not before LANGUAGE > INPUT
+  clang: any unknown --driver-mode=* ! --driver-mode=g++ --driver-mode=gcc* ; not plusplus
+  clang: any unknown --driver-mode=g++ ; extension c h i ; not before LANGUAGE > INPUT ; not plusplus
 
 hazard objective-c-flag object
   says The language that the built command states wins over the flag.
@@ -316,8 +327,8 @@ hazard delimiter-dropped failure
 hazard order-of-searched-folders object
   says Folders are searched for headers in another order.
   gcc, clang: before unknown --include-barrier --include-directory --include-directory=* --include-with-prefix-before --include-with-prefix-before=* > flag -I -iwithprefixbefore -F
-  gcc, clang: before unknown --include-directory-after --include-directory-after=* --include-with-prefix --include-with-prefix=* --include-with-prefix-after --include-with-prefix-after=* > flag -idirafter -iwithprefix
-  clang: before unknown -iwithsysroot* > flag -isystem -iframework
+  gcc, clang: before unknown --include-directory-after --include-directory-after=* --include-with-prefix --include-with-prefix=* --include-with-prefix-after --include-with-prefix-after=* > flag -idirafter -iwithprefix ; not language assembler
+  clang: before unknown -iwithsysroot* > flag -isystem -iframework ; not language assembler
   clang-cl: inner before unknown --include-barrier --include-directory --include-directory=* --include-with-prefix-before --include-with-prefix-before=* > flag -I -iwithprefixbefore -F
   clang-cl: inner before unknown --include-directory-after --include-directory-after=* --include-with-prefix --include-with-prefix=* --include-with-prefix-after --include-with-prefix-after=* > flag -idirafter -iwithprefix
   clang-cl: inner before unknown -iwithsysroot* > flag -isystem -iframework
@@ -384,6 +395,8 @@ hazard joined-dependency-file side-file
 
 hazard dependency-file-handed-on side-file
   says Another dependency file is written than the one that is passed on to the preprocessor.
+  gcc: preprocessed ; any NEED ; unfollowed flag -Xpreprocessor & value -MD -MMD > flag -Xpreprocessor ; not any OUTPUT ; not any TARGET
+  gcc: preprocessed ; any NEED ; any flag -Wp & value -MD -MMD *,-MD *,-MMD ; not any OUTPUT ; not any TARGET
   clang: preprocessed ; any HANDED_FILE ; any NEED ; not any DEPENDENCY_FILE
   clang: preprocessed ; last HANDED_FILE > DEPENDENCY_FILE ; any DEPENDENCY_FILE
 
@@ -401,8 +414,10 @@ hazard hidden-object side-file
 
 hazard color-value-unknown failure
   says The compiler stops at the colour's value, which the built command lacks.
-  gcc, clang: any kind diagnostics-color & value * ! \e always never auto
-  gcc, clang: word -fdiagnostics-color=
+  gcc: any kind diagnostics-color & value * ! \e always never auto
+  gcc: word -fdiagnostics-color=
+  clang: any kind diagnostics-color & value * ! \e always never auto ; not language assembler
+  clang: word -fdiagnostics-color= ; not language assembler
 
 hazard unused-words-for-assembler failure
   says Clang stops at the added words, which it does not use for assembler.
@@ -502,8 +517,8 @@ hazard backslash-folder failure
 
 hazard intermediate-files side-file
   says Clang-cl keeps what goes from one of its steps to the next, since the built command names an output.
-  clang-cl: language assembler-with-cpp
-  clang-cl: any unknown --via-file-asm -via-file-asm
+  clang-cl: language assembler-with-cpp ; not any flag -Fo /Fo
+  clang-cl: any unknown --via-file-asm -via-file-asm ; not any flag -Fo /Fo ; not language assembler
   clang-cl: inner any unknown -fembed-bitcode* -rewrite-objc -via-file-asm* --via-file-asm*
 
 hazard slash-before-xclang failure

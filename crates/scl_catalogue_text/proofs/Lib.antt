@@ -6,6 +6,7 @@ pub mod CutLemmas
 pub mod EachLemmas
 pub mod GroupLemmas
 pub mod LineLemmas
+pub mod PatternLemmas
 pub mod PlainLemmas
 pub mod SplitLemmas
 pub mod TestLemmas

@@ -4,10 +4,14 @@ use Rattle.std.proofs.lemmas.Bool.{not-true}
 use Rattle.std.proofs.lemmas.List.{append-nil}
 use Rattle.std.specs.Char.{is_ascii_control}
 use Rattle.std.specs.List.{list_all, list_any}
+use Rattle.std.specs.Option.{option_map}
 use Rattle.std.specs.Str.{bytes_eq}
-use Rattle.scl_catalogue.specs.Form.{Group, Case, Test, Tells, Hazard, Effect, Reason, Plain, Key, Run, Names, Entry, Catalogue}
+use Rattle.scl_catalogue.specs.Form.{Group, Case, Test, Tells, Hazard, Effect, Plain, Key, Run, Names, Brings, Entry, Catalogue}
 use Rattle.scl_catalogue.specs.declared.case.Compiler.{Compiler}
 use Rattle.scl_catalogue.specs.declared.case.Compiler.TheVariants as compiler
+use Rattle.scl_catalogue.specs.Numbered.{numbers_in}
+use Rattle.scl_catalogue.specs.declared.entry.Brings as declared
+use Rattle.scl_catalogue.specs.declared.entry.Brings.TheVariants as brings
 use Rattle.scl_catalogue.specs.declared.entry.Danger.{Danger}
 use Rattle.scl_catalogue.specs.declared.entry.Danger.TheVariants as danger
 use Rattle.scl_catalogue.specs.declared.entry.Doing.{Doing}
@@ -16,15 +20,18 @@ use Rattle.scl_catalogue.specs.declared.entry.Naming.{Naming}
 use Rattle.scl_catalogue.specs.declared.entry.Naming.TheVariants as naming
 use Rattle.scl_catalogue.specs.declared.entry.Verb.{Verb}
 use Rattle.scl_catalogue.specs.declared.entry.Verb.TheVariants as verb
+use Rattle.scl_catalogue.specs.declared.numbers.NumberSet.{NumberSet}
 use Rattle.scl_catalogue_text.specs.Cutting.{first_word, from_mark, other_words, parts, until_mark, words}
 use Rattle.scl_catalogue_text.specs.Files.{has_its_options}
-use Rattle.scl_catalogue_text.specs.Lines.{NewCase, NewEntry, NewGroup, Nothing, Says, SoFar, added, effect_read, group_line_by, group_line_read, hazard_read, key_read, line_by, line_read, lines_read, name_read, naming_read, read, run_read, with_last, with_line, word_line_by}
-use Rattle.scl_catalogue_text.specs.Names.{compiler_name, danger_name, danger_named, doing_name, doing_named, naming_name, naming_named, verb_name, verb_named}
+use Rattle.scl_catalogue_text.specs.Lines.{NewCase, NewEntry, NewGroup, Nothing, Open, Says, SoFar, added, effect_read, entry_of_open, group_line_by, group_line_read, kind_read, line_by, line_read, lines_read, name_read, read, tells_named, with_last, with_line}
+use Rattle.scl_catalogue_text.specs.Names.{brings_name, brings_named, compiler_name, danger_name, danger_named, doing_name, doing_named, kind_name, naming_name, naming_named, verb_name, verb_named}
 use Rattle.scl_catalogue_text.specs.Outcome.{after}
 use Rattle.scl_catalogue_text.specs.Reading.{case_read, group_named, tests_read}
 use Rattle.scl_catalogue_text.specs.Writable.{AreCases, AreEntries, AreGroups, CanBeWritten, IsCase, IsEntry, are_tests, has_one, HasWords, is_group_name, is_plain_word, is_served}
-use Rattle.scl_catalogue_text.specs.Written.{case_text, condition_text, entry_lines, group_line, head_text, joined, lines_of, lines_of_entries, lines_text, spaced, tests_text, written}
+use Rattle.scl_catalogue_text.specs.Written.{case_text, condition_text, entry_lines, group_line, head_text, joined, kind_text, lines_of, lines_of_entries, lines_text, spaced, tests_text, written}
 use Rattle.scl_catalogue_text.specs.declared.mistake.BadLine.{BadLine}
+use Rattle.scl_catalogue_text.specs.declared.names.Kind.{Kind}
+use Rattle.scl_catalogue_text.specs.declared.names.Kind.TheVariants as kind
 use Rattle.scl_catalogue_text.proofs.CaseLemmas.{begins-compiler, case-bytes, case-written}
 use Rattle.scl_catalogue_text.proofs.ConditionLemmas.{is_of_line}
 use Rattle.scl_catalogue_text.proofs.GroupLemmas.{is_of_name, is_of_tests, lacks-all, name-unbroken, of-tests, other-than-control, tests-control, tests-written}
@@ -79,35 +86,26 @@ plain-unbroken name h = both (and-left (has_one name) (list_all is_of_word name)
 plain-line : (name : List ℕ) → is_plain_word name ≡ true → list_all is_of_line name ≡ true
 plain-line name h = lacks-all is_of_word [] name (other-than-control (32 ∷ [])) refl (and-right (has_one name) (list_all is_of_word name) h)
 
-record IsDanger (d : Danger) : Type 0 where
-  read : danger_named (danger_name d) ≡ Some d
-  unbroken : is_unbroken (danger_name d) ≡ true
-  bytes : list_all is_of_line (danger_name d) ≡ true
+-- a word by which a text names this
+record IsNamed {A : Type 0} (named : List ℕ → Option A) (name : List ℕ) (x : A) : Type 0 where
+  read : named name ≡ Some x
+  unbroken : is_unbroken name ≡ true
+  bytes : list_all is_of_line name ≡ true
 
-danger-name : (d : Danger) → IsDanger d
+danger-name : (d : Danger) → IsNamed danger_named (danger_name d) d
 danger-name danger.Object = record { read = refl; unbroken = refl; bytes = refl }
 danger-name danger.Failure = record { read = refl; unbroken = refl; bytes = refl }
 danger-name danger.SideFile = record { read = refl; unbroken = refl; bytes = refl }
 danger-name danger.Messages = record { read = refl; unbroken = refl; bytes = refl }
 danger-name danger.Run = record { read = refl; unbroken = refl; bytes = refl }
 
-record IsVerb (v : Verb) : Type 0 where
-  read : verb_named (verb_name v) ≡ Some v
-  unbroken : is_unbroken (verb_name v) ≡ true
-  bytes : list_all is_of_line (verb_name v) ≡ true
-
-verb-name : (v : Verb) → IsVerb v
+verb-name : (v : Verb) → IsNamed verb_named (verb_name v) v
 verb-name verb.Reads = record { read = refl; unbroken = refl; bytes = refl }
 verb-name verb.Writes = record { read = refl; unbroken = refl; bytes = refl }
 verb-name verb.Asks = record { read = refl; unbroken = refl; bytes = refl }
 verb-name verb.Loads = record { read = refl; unbroken = refl; bytes = refl }
 
-record IsDoing (d : Doing) : Type 0 where
-  read : doing_named (doing_name d) ≡ Some d
-  unbroken : is_unbroken (doing_name d) ≡ true
-  bytes : list_all is_of_line (doing_name d) ≡ true
-
-doing-name : (d : Doing) → IsDoing d
+doing-name : (d : Doing) → IsNamed doing_named (doing_name d) d
 doing-name doing.Plain = record { read = refl; unbroken = refl; bytes = refl }
 doing-name doing.Exact = record { read = refl; unbroken = refl; bytes = refl }
 doing-name doing.Macros = record { read = refl; unbroken = refl; bytes = refl }
@@ -116,12 +114,7 @@ doing-name doing.TextHides = record { read = refl; unbroken = refl; bytes = refl
 doing-name doing.ReadsCounts = record { read = refl; unbroken = refl; bytes = refl }
 doing-name doing.ReadsSamples = record { read = refl; unbroken = refl; bytes = refl }
 
-record IsNaming (n : Naming) : Type 0 where
-  read : naming_named (naming_name n) ≡ Some n
-  unbroken : is_unbroken (naming_name n) ≡ true
-  bytes : list_all is_of_line (naming_name n) ≡ true
-
-naming-name : (n : Naming) → IsNaming n
+naming-name : (n : Naming) → IsNamed naming_named (naming_name n) n
 naming-name naming.Nothing = record { read = refl; unbroken = refl; bytes = refl }
 naming-name naming.DebugInfo = record { read = refl; unbroken = refl; bytes = refl }
 naming-name naming.FileMap = record { read = refl; unbroken = refl; bytes = refl }
@@ -129,33 +122,29 @@ naming-name naming.DebugMap = record { read = refl; unbroken = refl; bytes = ref
 naming-name naming.MacroMap = record { read = refl; unbroken = refl; bytes = refl }
 naming-name naming.Anything = record { read = refl; unbroken = refl; bytes = refl }
 
-hazard-head : (gs : List Group) (xs : List ℕ) → line_read gs (codes "hazard" ++ 32 ∷ xs) ≡ hazard_read (words (32 ∷ xs))
-unfolding line_read line_by first_word other_words
-hazard-head gs xs = refl
+brings-name : (b : declared.Brings) → IsNamed brings_named (brings_name b) b
+brings-name brings.Folder = record { read = refl; unbroken = refl; bytes = refl }
+brings-name brings.Header = record { read = refl; unbroken = refl; bytes = refl }
+brings-name brings.MacroFile = record { read = refl; unbroken = refl; bytes = refl }
+brings-name brings.Other = record { read = refl; unbroken = refl; bytes = refl }
+brings-name brings.Dependencies = record { read = refl; unbroken = refl; bytes = refl }
+brings-name brings.Unknown = record { read = refl; unbroken = refl; bytes = refl }
 
 effect-head : (gs : List Group) (xs : List ℕ) → line_read gs (codes "effect" ++ 32 ∷ xs) ≡ effect_read (words (32 ∷ xs))
 unfolding line_read line_by first_word other_words
 effect-head gs xs = refl
 
-reason-head : (gs : List Group) (xs : List ℕ) → line_read gs (codes "reason" ++ 32 ∷ xs) ≡ name_read Reason (words (32 ∷ xs))
-unfolding line_read line_by first_word other_words
-reason-head gs xs = refl
-
 plain-head : (gs : List Group) (xs : List ℕ) → line_read gs (codes "plain" ++ 32 ∷ xs) ≡ name_read Plain (words (32 ∷ xs))
 unfolding line_read line_by first_word other_words
 plain-head gs xs = refl
 
-key-head : (gs : List Group) (xs : List ℕ) → line_read gs (codes "key" ++ 32 ∷ xs) ≡ key_read (words (32 ∷ xs))
-unfolding line_read line_by word_line_by first_word other_words
-key-head gs xs = refl
-
-run-head : (gs : List Group) (xs : List ℕ) → line_read gs (codes "run" ++ 32 ∷ xs) ≡ run_read (words (32 ∷ xs))
-unfolding line_read line_by word_line_by first_word other_words
-run-head gs xs = refl
-
-naming-head : (gs : List Group) (xs : List ℕ) → line_read gs (codes "names" ++ 32 ∷ xs) ≡ naming_read (words (32 ∷ xs))
-unfolding line_read line_by word_line_by first_word other_words
-naming-head gs xs = refl
+kind-head : (k : Kind) (gs : List Group) (xs : List ℕ) → line_read gs (kind_name k ++ 32 ∷ xs) ≡ kind_read k (words (32 ∷ xs))
+unfolding line_read line_by first_word other_words
+kind-head kind.Hazard gs xs = refl
+kind-head kind.Key gs xs = refl
+kind-head kind.Run gs xs = refl
+kind-head kind.Names gs xs = refl
+kind-head kind.Brings gs xs = refl
 
 name-read : (tells : Tells) (name : List ℕ) → is_plain_word name ≡ true → name_read tells (words (spaced (name ∷ []))) ≡ Ok (NewEntry tells name)
 unfolding name_read
@@ -163,32 +152,30 @@ name-read tells name h =
     let cut : words (spaced (name ∷ [])) ≡ name ∷ [] = words-spaced (name ∷ []) (both (plain-unbroken name h) refl) in
     ap (name_read tells) cut
 
+kind-written : (gs : List Group) (k : Kind) (name what : List ℕ) (tells : Tells) → is_plain_word name ≡ true → is_unbroken what ≡ true → tells_named k what ≡ Some tells → line_read gs (kind_text k name what) ≡ Ok (NewEntry tells name)
+unfolding kind_read
+kind-written gs k name what tells h unbroken told =
+    let cut : words (spaced (name ∷ what ∷ [])) ≡ name ∷ what ∷ [] = words-spaced (name ∷ what ∷ []) (both (plain-unbroken name h) (both unbroken refl)) in
+    kind-head k gs (name ++ spaced (what ∷ [])) ∙ (ap (kind_read k) cut ∙ rw told refl)
+
 head-written : (gs : List Group) (tells : Tells) (name : List ℕ) → is_plain_word name ≡ true → HasWords tells → line_read gs (head_text tells name) ≡ Ok (NewEntry tells name)
-unfolding hazard_read effect_read key_read run_read naming_read
-head-written gs (Hazard d) name h k =
-    let cut : words (spaced (name ∷ danger_name d ∷ [])) ≡ name ∷ danger_name d ∷ [] = words-spaced (name ∷ danger_name d ∷ []) (both (plain-unbroken name h) (both (danger-name d).unbroken refl)) in
-    hazard-head gs (name ++ spaced (danger_name d ∷ [])) ∙ (ap hazard_read cut ∙ rw (danger-name d).read refl)
+unfolding effect_read
+head-written gs (Hazard d) name h k = kind-written gs kind.Hazard name (danger_name d) (Hazard d) h (danger-name d).unbroken (ap (option_map Hazard) (danger-name d).read)
 head-written gs (Effect v file) name h k =
     let cut : words (spaced (name ∷ verb_name v ∷ file ∷ [])) ≡ name ∷ verb_name v ∷ file ∷ [] = words-spaced (name ∷ verb_name v ∷ file ∷ []) (both (plain-unbroken name h) (both (verb-name v).unbroken (both (plain-unbroken file k.0) refl))) in
     effect-head gs (name ++ spaced (verb_name v ∷ file ∷ [])) ∙ (ap effect_read cut ∙ rw ((verb-name v).read, k.1) refl)
-head-written gs Reason name h k = reason-head gs (name ++ []) ∙ name-read Reason name h
 head-written gs Plain name h k = plain-head gs (name ++ []) ∙ name-read Plain name h
-head-written gs (Key d) name h k =
-    let cut : words (spaced (name ∷ doing_name d ∷ [])) ≡ name ∷ doing_name d ∷ [] = words-spaced (name ∷ doing_name d ∷ []) (both (plain-unbroken name h) (both (doing-name d).unbroken refl)) in
-    key-head gs (name ++ spaced (doing_name d ∷ [])) ∙ (ap key_read cut ∙ rw (doing-name d).read refl)
-head-written gs (Run d) name h k =
-    let cut : words (spaced (name ∷ doing_name d ∷ [])) ≡ name ∷ doing_name d ∷ [] = words-spaced (name ∷ doing_name d ∷ []) (both (plain-unbroken name h) (both (doing-name d).unbroken refl)) in
-    run-head gs (name ++ spaced (doing_name d ∷ [])) ∙ (ap run_read cut ∙ rw (doing-name d).read refl)
-head-written gs (Names n) name h k =
-    let cut : words (spaced (name ∷ naming_name n ∷ [])) ≡ name ∷ naming_name n ∷ [] = words-spaced (name ∷ naming_name n ∷ []) (both (plain-unbroken name h) (both (naming-name n).unbroken refl)) in
-    naming-head gs (name ++ spaced (naming_name n ∷ [])) ∙ (ap naming_read cut ∙ rw (naming-name n).read refl)
+head-written gs (Key d) name h k = kind-written gs kind.Key name (doing_name d) (Key d) h (doing-name d).unbroken (ap (option_map Key) (doing-name d).read)
+head-written gs (Run d) name h k = kind-written gs kind.Run name (doing_name d) (Run d) h (doing-name d).unbroken (ap (option_map Run) (doing-name d).read)
+head-written gs (Names n) name h k = kind-written gs kind.Names name (naming_name n) (Names n) h (naming-name n).unbroken (ap (option_map Names) (naming-name n).read)
+head-written gs (Brings b) name h k = kind-written gs kind.Brings name (brings_name b) (Brings b) h (brings-name b).unbroken (ap (option_map Brings) (brings-name b).read)
 
 says-written : (gs : List Group) (says : List ℕ) → line_read gs (codes "  says " ++ says) ≡ Ok (Says says)
 unfolding line_read line_by first_word other_words
 says-written gs says = refl
 
 case-head : (gs : List Group) (c : Compiler) (xs : List ℕ) → line_read gs (32 ∷ 32 ∷ (compiler_name c ++ xs)) ≡ after (case_read gs (32 ∷ 32 ∷ (compiler_name c ++ xs))) (λ case. Ok (NewCase case))
-unfolding line_read line_by word_line_by first_word other_words
+unfolding line_read line_by first_word other_words
 case-head gs compiler.Gcc xs = refl
 case-head gs compiler.Clang xs = refl
 case-head gs compiler.ClangCl xs = refl
@@ -211,14 +198,21 @@ group-line-bytes : (g : Group) → is_group_name g.name ≡ true → are_tests g
 group-line-bytes g h k =
     all-append is_of_line g.name (58 ∷ tests_text g.tests) (lacks-all is_of_name [] g.name (other-than-control (32 ∷ 58 ∷ 59 ∷ 62 ∷ [])) refl (and-right (has_one g.name) (list_all is_of_name g.name) h)) (lacks-all is_of_tests [] (tests_text g.tests) tests-control refl (of-tests g.tests k))
 
+kind-bytes : (k : Kind) (name what : List ℕ) → is_plain_word name ≡ true → list_all is_of_line what ≡ true → list_all is_of_line (kind_text k name what) ≡ true
+kind-bytes kind.Hazard name what h w = spaced-bytes is_of_line refl (name ∷ what ∷ []) (both (plain-line name h) (both w refl))
+kind-bytes kind.Key name what h w = spaced-bytes is_of_line refl (name ∷ what ∷ []) (both (plain-line name h) (both w refl))
+kind-bytes kind.Run name what h w = spaced-bytes is_of_line refl (name ∷ what ∷ []) (both (plain-line name h) (both w refl))
+kind-bytes kind.Names name what h w = spaced-bytes is_of_line refl (name ∷ what ∷ []) (both (plain-line name h) (both w refl))
+kind-bytes kind.Brings name what h w = spaced-bytes is_of_line refl (name ∷ what ∷ []) (both (plain-line name h) (both w refl))
+
 head-bytes : (tells : Tells) (name : List ℕ) → is_plain_word name ≡ true → HasWords tells → list_all is_of_line (head_text tells name) ≡ true
-head-bytes (Hazard d) name h k = spaced-bytes is_of_line refl (name ∷ danger_name d ∷ []) (both (plain-line name h) (both (danger-name d).bytes refl))
+head-bytes (Hazard d) name h k = kind-bytes kind.Hazard name (danger_name d) h (danger-name d).bytes
 head-bytes (Effect v file) name h k = spaced-bytes is_of_line refl (name ∷ verb_name v ∷ file ∷ []) (both (plain-line name h) (both (verb-name v).bytes (both (plain-line file k.0) refl)))
-head-bytes Reason name h k = spaced-bytes is_of_line refl (name ∷ []) (both (plain-line name h) refl)
 head-bytes Plain name h k = spaced-bytes is_of_line refl (name ∷ []) (both (plain-line name h) refl)
-head-bytes (Key d) name h k = spaced-bytes is_of_line refl (name ∷ doing_name d ∷ []) (both (plain-line name h) (both (doing-name d).bytes refl))
-head-bytes (Run d) name h k = spaced-bytes is_of_line refl (name ∷ doing_name d ∷ []) (both (plain-line name h) (both (doing-name d).bytes refl))
-head-bytes (Names n) name h k = spaced-bytes is_of_line refl (name ∷ naming_name n ∷ []) (both (plain-line name h) (both (naming-name n).bytes refl))
+head-bytes (Key d) name h k = kind-bytes kind.Key name (doing_name d) h (doing-name d).bytes
+head-bytes (Run d) name h k = kind-bytes kind.Run name (doing_name d) h (doing-name d).bytes
+head-bytes (Names n) name h k = kind-bytes kind.Names name (naming_name n) h (naming-name n).bytes
+head-bytes (Brings b) name h k = kind-bytes kind.Brings name (brings_name b) h (brings-name b).bytes
 
 without-control : (bs : List ℕ) → list_all is_of_line bs ≡ true → list_any is_ascii_control bs ≡ false
 without-control [] h = refl
@@ -229,7 +223,7 @@ line-added s line h = rw (without-control line h) refl
 
 -- ---- texts
 
-abbrev state : List Group → List Entry → Option Entry → SoFar
+abbrev state : List Group → List Entry → Option Open → SoFar
 state gs es last = record { groups = gs; entries = es; last = last }
 
 -- a line that adds to what is read so far
@@ -244,34 +238,40 @@ groups-read (g ∷ gs) above n rest r h k =
     step n (state above [] None) (state (above ++ g ∷ []) [] None) (group_line g) (map group_line gs ++ rest) read
     ∙ groups-read gs (above ++ g ∷ []) (n + 1) rest r h.3 (λ m. ap (λ all. lines_read m (state all [] None) rest) (append_assoc above (g ∷ []) gs) ∙ k m)
 
-abbrev entry_with : Tells → List ℕ → List ℕ → List Case → Entry
-entry_with tells name says cases = record { tells = tells; name = name; says = says; cases = cases }
+abbrev open_with : Tells → List ℕ → List ℕ → List Case → Open
+open_with tells name says cases = record { tells = tells; name = name; says = says; cases = cases }
+
+-- an entry is made of what is open, where it has the numbers of its cases
+opened : (e : Entry) → e.numbers ≡ numbers_in e.cases → entry_of_open (open_with e.tells e.name e.says e.cases) ≡ e
+opened e h = ap (λ (ns : NumberSet). record { tells = e.tells; name = e.name; says = e.says; cases = e.cases; numbers = ns }) (sym h)
 
 cases-read : (cs before : List Case) (gs : List Group) (es : List Entry) (tells : Tells) (name says : List ℕ) (n : ℕ) (rest : List (List ℕ)) (r : Result Catalogue BadLine) → AreCases gs cs → list_all (has_its_options tells) cs ≡ true
-    → ((m : ℕ) → lines_read m (state gs es (Some (entry_with tells name says (before ++ cs)))) rest ≡ r) → lines_read n (state gs es (Some (entry_with tells name says before))) (map case_text cs ++ rest) ≡ r
-cases-read [] before gs es tells name says n rest r h o k = ap (λ cs. lines_read n (state gs es (Some (entry_with tells name says cs))) rest) (sym (append-nil before)) ∙ k n
+    → ((m : ℕ) → lines_read m (state gs es (Some (open_with tells name says (before ++ cs)))) rest ≡ r) → lines_read n (state gs es (Some (open_with tells name says before))) (map case_text cs ++ rest) ≡ r
+cases-read [] before gs es tells name says n rest r h o k = ap (λ cs. lines_read n (state gs es (Some (open_with tells name says cs))) rest) (sym (append-nil before)) ∙ k n
 cases-read (c ∷ cs) before gs es tells name says n rest r h o k =
     let line : line_read gs (case_text c) ≡ Ok (NewCase c) = case-line gs c h.0 in
-    let read : with_line (state gs es (Some (entry_with tells name says before))) (case_text c) ≡ Ok (state gs es (Some (entry_with tells name says (before ++ c ∷ [])))) = line-added (state gs es (Some (entry_with tells name says before))) (case_text c) (case-bytes gs c h.0) ∙ rw (line, and-left (has_its_options tells c) (list_all (has_its_options tells) cs) o) refl in
-    step n (state gs es (Some (entry_with tells name says before))) (state gs es (Some (entry_with tells name says (before ++ c ∷ [])))) (case_text c) (map case_text cs ++ rest) read
-    ∙ cases-read cs (before ++ c ∷ []) gs es tells name says (n + 1) rest r h.1 (and-right (has_its_options tells c) (list_all (has_its_options tells) cs) o) (λ m. ap (λ all. lines_read m (state gs es (Some (entry_with tells name says all))) rest) (append_assoc before (c ∷ []) cs) ∙ k m)
+    let read : with_line (state gs es (Some (open_with tells name says before))) (case_text c) ≡ Ok (state gs es (Some (open_with tells name says (before ++ c ∷ [])))) = line-added (state gs es (Some (open_with tells name says before))) (case_text c) (case-bytes gs c h.0) ∙ rw (line, and-left (has_its_options tells c) (list_all (has_its_options tells) cs) o) refl in
+    step n (state gs es (Some (open_with tells name says before))) (state gs es (Some (open_with tells name says (before ++ c ∷ [])))) (case_text c) (map case_text cs ++ rest) read
+    ∙ cases-read cs (before ++ c ∷ []) gs es tells name says (n + 1) rest r h.1 (and-right (has_its_options tells c) (list_all (has_its_options tells) cs) o) (λ m. ap (λ all. lines_read m (state gs es (Some (open_with tells name says all))) rest) (append_assoc before (c ∷ []) cs) ∙ k m)
 
-head-added : (gs : List Group) (es above : List Entry) (last : Option Entry) (tells : Tells) (name : List ℕ) → with_last es last ≡ above → list_any (λ other. bytes_eq other.name name) above ≡ false → list_all is_of_line (head_text tells name) ≡ true → line_read gs (head_text tells name) ≡ Ok (NewEntry tells name)
-    → with_line (state gs es last) (head_text tells name) ≡ Ok (state gs above (Some (entry_with tells name [] [])))
+head-added : (gs : List Group) (es above : List Entry) (last : Option Open) (tells : Tells) (name : List ℕ) → with_last es last ≡ above → list_any (λ other. bytes_eq other.name name) above ≡ false → list_all is_of_line (head_text tells name) ≡ true → line_read gs (head_text tells name) ≡ Ok (NewEntry tells name)
+    → with_line (state gs es last) (head_text tells name) ≡ Ok (state gs above (Some (open_with tells name [] [])))
 head-added gs es above last tells name e h bytes line = line-added (state gs es last) (head_text tells name) bytes ∙ rw (line, e, h) refl
 
-entries-read : (entries above : List Entry) (gs : List Group) (es : List Entry) (last : Option Entry) (n : ℕ) → with_last es last ≡ above → AreEntries gs above entries → lines_read n (state gs es last) (lines_of_entries entries ++ [] ∷ []) ≡ Ok (record { groups = gs; entries = above ++ entries })
+entries-read : (entries above : List Entry) (gs : List Group) (es : List Entry) (last : Option Open) (n : ℕ) → with_last es last ≡ above → AreEntries gs above entries → lines_read n (state gs es last) (lines_of_entries entries ++ [] ∷ []) ≡ Ok (record { groups = gs; entries = above ++ entries })
 entries-read [] above gs es last n e h = rw (nothing-line gs, e) (ap (λ all. Ok (record { groups = gs; entries = all })) (sym (append-nil above)))
 entries-read (f ∷ entries) above gs es last n e h =
     let is = h.0 in
     let rest : List (List ℕ) = lines_of_entries entries ++ [] ∷ [] in
     let head = head-added gs es above last f.tells f.name e h.1 (head-bytes f.tells f.name is.name is.tells) (head-written gs f.tells f.name is.name is.tells) in
-    let said : with_line (state gs above (Some (entry_with f.tells f.name [] []))) (codes "  says " ++ f.says) ≡ Ok (state gs above (Some (entry_with f.tells f.name f.says []))) = line-added (state gs above (Some (entry_with f.tells f.name [] []))) (codes "  says " ++ f.says) is.says ∙ rw (says-written gs f.says) refl in
-    let others : (m : ℕ) → lines_read m (state gs above (Some f)) rest ≡ Ok (record { groups = gs; entries = above ++ f ∷ entries }) =
-    λ m. entries-read entries (above ++ f ∷ []) gs above (Some f) m refl h.2 ∙ ap (λ all. Ok (record { groups = gs; entries = all })) (append_assoc above (f ∷ []) entries) in
+    let said : with_line (state gs above (Some (open_with f.tells f.name [] []))) (codes "  says " ++ f.says) ≡ Ok (state gs above (Some (open_with f.tells f.name f.says []))) = line-added (state gs above (Some (open_with f.tells f.name [] []))) (codes "  says " ++ f.says) is.says ∙ rw (says-written gs f.says) refl in
+    let made : Open = open_with f.tells f.name f.says f.cases in
+    let closing : above ++ entry_of_open made ∷ [] ≡ above ++ f ∷ [] = ap (λ (e : Entry). above ++ e ∷ []) (opened f is.numbers) in
+    let others : (m : ℕ) → lines_read m (state gs above (Some made)) rest ≡ Ok (record { groups = gs; entries = above ++ f ∷ entries }) =
+    λ m. entries-read entries (above ++ f ∷ []) gs above (Some made) m closing h.2 ∙ ap (λ all. Ok (record { groups = gs; entries = all })) (append_assoc above (f ∷ []) entries) in
     ap (lines_read n (state gs es last)) (append_assoc (entry_lines f) (lines_of_entries entries) ([] ∷ []))
-    ∙ (step n (state gs es last) (state gs above (Some (entry_with f.tells f.name [] []))) (head_text f.tells f.name) ((codes "  says " ++ f.says) ∷ (map case_text f.cases ++ rest)) head
-    ∙ (step (n + 1) (state gs above (Some (entry_with f.tells f.name [] []))) (state gs above (Some (entry_with f.tells f.name f.says []))) (codes "  says " ++ f.says) (map case_text f.cases ++ rest) said
+    ∙ (step n (state gs es last) (state gs above (Some (open_with f.tells f.name [] []))) (head_text f.tells f.name) ((codes "  says " ++ f.says) ∷ (map case_text f.cases ++ rest)) head
+    ∙ (step (n + 1) (state gs above (Some (open_with f.tells f.name [] []))) (state gs above (Some (open_with f.tells f.name f.says []))) (codes "  says " ++ f.says) (map case_text f.cases ++ rest) said
     ∙ cases-read f.cases [] gs above f.tells f.name f.says (n + 1 + 1) rest (Ok (record { groups = gs; entries = above ++ f ∷ entries })) is.cases is.options others))
 
 -- ---- lines without line ends

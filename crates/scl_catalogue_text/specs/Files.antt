@@ -3,7 +3,7 @@ use Rattle.std.specs.Prelude.{ℕ, ◌-◌, ◌==◌, slice_get, Bool, true, fal
 use Rattle.std.specs.List.{list_any}
 use Rattle.std.specs.Option.{option_map}
 use Rattle.std.specs.Str.{bytes_eq}
-use Rattle.scl_catalogue.specs.Form.{Question, Is, At, Given, Inner, Condition, Case, Tells, Hazard, Effect, Reason, Plain, Key, Run, Names}
+use Rattle.scl_catalogue.specs.Form.{Question, Is, At, Given, Inner, Condition, Case, Tells, Hazard, Effect, Plain, Key, Run, Names, Brings}
 use Rattle.scl_catalogue.specs.Found.{holds}
 use Rattle.scl_catalogue_text.specs.Cutting.{first_word, from_mark, is_word, other_words, parts, until_mark}
 use Rattle.scl_catalogue_text.specs.Outcome.{after}
@@ -49,11 +49,11 @@ file_read file = file_of_parts (parts 123 file)
 abbrev pub has_value : Tells → Bool
 has_value (Hazard d) = false
 has_value (Effect v file) = holds file (codes "{value}")
-has_value Reason = false
 has_value Plain = false
 has_value (Key d) = false
 has_value (Run d) = false
 has_value (Names n) = false
+has_value (Brings b) = false
 
 abbrev pub is_of_options : Question → Bool
 is_of_options (Is f) = false

@@ -2,16 +2,20 @@
 use Rattle.std.specs.Prelude.{ℕ, ◌+◌, ◌==◌, Bool, false, cond, not, ◌||◌, List, [], ◌∷◌, ◌++◌, codes, Option, None, Some, Result, Ok, Err}
 use Rattle.std.specs.Char.{is_ascii_control}
 use Rattle.std.specs.List.{list_any}
+use Rattle.std.specs.Option.{option_map}
 use Rattle.std.specs.Str.{bytes_eq}
-use Rattle.scl_catalogue.specs.Form.{Group, Case, Tells, Hazard, Effect, Reason, Plain, Key, Run, Names, Entry, Catalogue}
+use Rattle.scl_catalogue.specs.Form.{Group, Case, Tells, Hazard, Effect, Plain, Key, Run, Names, Brings, Entry, Catalogue}
+use Rattle.scl_catalogue.specs.Numbered.{entry_with}
 use Rattle.scl_catalogue_text.specs.Cutting.{first_word, from_mark, is_word, other_words, parts, until_mark, words}
 use Rattle.scl_catalogue_text.specs.Files.{file_read, has_its_options}
-use Rattle.scl_catalogue_text.specs.Names.{danger_named, doing_named, naming_named, verb_named}
+use Rattle.scl_catalogue_text.specs.Names.{brings_named, danger_named, doing_named, kind_named, naming_named, verb_named}
 use Rattle.scl_catalogue_text.specs.Outcome.{after, after_line, at_end, at_line, or_mistake}
 use Rattle.scl_catalogue_text.specs.Reading.{case_read, group_named, tests_read}
 use Rattle.scl_catalogue_text.specs.declared.mistake.BadLine.{BadLine}
 use Rattle.scl_catalogue_text.specs.declared.mistake.Mistake.{Mistake}
 use Rattle.scl_catalogue_text.specs.declared.mistake.Mistake.TheVariants as mistake
+use Rattle.scl_catalogue_text.specs.declared.names.Kind.{Kind}
+use Rattle.scl_catalogue_text.specs.declared.names.Kind.TheVariants as kind
 
 -- what a line says
 pub data Said : Type 0 where
@@ -21,12 +25,6 @@ pub data Said : Type 0 where
   Says : List ℕ → Said
   NewCase : Case → Said
 
-unfoldable pub hazard_read : List (List ℕ) → Result Said Mistake
-hazard_read [] = Err mistake.WrongEntry
-hazard_read (name ∷ []) = Err mistake.WrongEntry
-hazard_read (name ∷ danger ∷ []) = after (or_mistake mistake.UnknownDanger (danger_named danger)) (λ d. Ok (NewEntry (Hazard d) name))
-hazard_read (name ∷ danger ∷ other ∷ more) = Err mistake.WrongEntry
-
 unfoldable pub effect_read : List (List ℕ) → Result Said Mistake
 effect_read [] = Err mistake.WrongEntry
 effect_read (name ∷ []) = Err mistake.WrongEntry
@@ -34,23 +32,31 @@ effect_read (name ∷ verb ∷ []) = Err mistake.WrongEntry
 effect_read (name ∷ verb ∷ file ∷ []) = after (or_mistake mistake.UnknownVerb (verb_named verb)) (λ v. after (file_read file) (λ _. Ok (NewEntry (Effect v file) name)))
 effect_read (name ∷ verb ∷ file ∷ other ∷ more) = Err mistake.WrongEntry
 
-unfoldable pub key_read : List (List ℕ) → Result Said Mistake
-key_read [] = Err mistake.WrongEntry
-key_read (name ∷ []) = Err mistake.WrongEntry
-key_read (name ∷ doing ∷ []) = after (or_mistake mistake.UnknownDoing (doing_named doing)) (λ d. Ok (NewEntry (Key d) name))
-key_read (name ∷ doing ∷ other ∷ more) = Err mistake.WrongEntry
+-- what an entry of the kind states that has this word
+abbrev pub tells_named : Kind → List ℕ → Option Tells
+tells_named kind.Hazard what = option_map Hazard (danger_named what)
+tells_named kind.Key what = option_map Key (doing_named what)
+tells_named kind.Run what = option_map Run (doing_named what)
+tells_named kind.Names what = option_map Names (naming_named what)
+tells_named kind.Brings what = option_map Brings (brings_named what)
 
-unfoldable pub run_read : List (List ℕ) → Result Said Mistake
-run_read [] = Err mistake.WrongEntry
-run_read (name ∷ []) = Err mistake.WrongEntry
-run_read (name ∷ doing ∷ []) = after (or_mistake mistake.UnknownDoing (doing_named doing)) (λ d. Ok (NewEntry (Run d) name))
-run_read (name ∷ doing ∷ other ∷ more) = Err mistake.WrongEntry
+-- what is wrong with a word that is none of the list
+abbrev pub mistake_of : Kind → Mistake
+mistake_of kind.Hazard = mistake.UnknownDanger
+mistake_of kind.Key = mistake.UnknownDoing
+mistake_of kind.Run = mistake.UnknownDoing
+mistake_of kind.Names = mistake.UnknownNaming
+mistake_of kind.Brings = mistake.UnknownBrings
 
-unfoldable pub naming_read : List (List ℕ) → Result Said Mistake
-naming_read [] = Err mistake.WrongEntry
-naming_read (name ∷ []) = Err mistake.WrongEntry
-naming_read (name ∷ naming ∷ []) = after (or_mistake mistake.UnknownNaming (naming_named naming)) (λ n. Ok (NewEntry (Names n) name))
-naming_read (name ∷ naming ∷ other ∷ more) = Err mistake.WrongEntry
+abbrev pub told_by : Kind → List ℕ → Result Tells Mistake
+told_by k what = or_mistake (mistake_of k) (tells_named k what)
+
+-- a name, and one word of a list
+unfoldable pub kind_read : Kind → List (List ℕ) → Result Said Mistake
+kind_read k [] = Err mistake.WrongEntry
+kind_read k (name ∷ []) = Err mistake.WrongEntry
+kind_read k (name ∷ what ∷ []) = after (told_by k what) (λ tells. Ok (NewEntry tells name))
+kind_read k (name ∷ what ∷ other ∷ more) = Err mistake.WrongEntry
 
 -- only a name, of an entry that states this
 unfoldable pub name_read : Tells → List (List ℕ) → Result Said Mistake
@@ -78,36 +84,43 @@ abbrev pub is_comment : List ℕ → Bool
 is_comment [] = false
 is_comment (b ∷ bs) = b == 35
 
--- an entry that says something of words, or a case
-unfoldable pub word_line_by : List Group → List ℕ → List ℕ → List ℕ → Result Said Mistake
-word_line_by gs word others line = cond (bytes_eq word (codes "key")) (key_read (words others))
-    (cond (bytes_eq word (codes "run")) (run_read (words others))
-    (cond (bytes_eq word (codes "names")) (naming_read (words others))
-    (after (case_read gs line) (λ c. Ok (NewCase c)))))
+-- an entry of this kind, or a case
+abbrev pub line_of_kind : List Group → Option Kind → List ℕ → List ℕ → Result Said Mistake
+line_of_kind gs None others line = after (case_read gs line) (λ c. Ok (NewCase c))
+line_of_kind gs (Some k) others line = kind_read k (words others)
 
 unfoldable pub line_by : List Group → List ℕ → List ℕ → List ℕ → Result Said Mistake
 line_by gs word others line = cond (bytes_eq word (codes "says")) (Ok (Says (without_first others)))
     (cond (bytes_eq word (codes "group")) (group_line_read gs others)
-    (cond (bytes_eq word (codes "hazard")) (hazard_read (words others))
     (cond (bytes_eq word (codes "effect")) (effect_read (words others))
-    (cond (bytes_eq word (codes "reason")) (name_read Reason (words others))
     (cond (bytes_eq word (codes "plain")) (name_read Plain (words others))
-    (word_line_by gs word others line))))))
+    (line_of_kind gs (kind_named word) others line))))
 
 unfoldable pub line_read : List Group → List ℕ → Result Said Mistake
 line_read gs line = cond (not (is_word (first_word line)) || is_comment line) (Ok Nothing) (line_by gs (first_word line) (other_words line) line)
 
 -- ---- texts
 
--- what is read so far: the last entry may go on
+-- an entry that may go on
+pub record Open : Type 0 where
+  pub tells : Tells
+  pub name : List ℕ
+  pub says : List ℕ
+  pub cases : List Case
+
+-- what is read so far
 pub record SoFar : Type 0 where
   pub groups : List Group
   pub entries : List Entry
-  pub last : Option Entry
+  pub last : Option Open
 
-abbrev pub with_last : List Entry → Option Entry → List Entry
+-- the entry, which does not go on
+abbrev pub entry_of_open : Open → Entry
+entry_of_open o = entry_with o.tells o.name o.says o.cases
+
+abbrev pub with_last : List Entry → Option Open → List Entry
 with_last es None = es
-with_last es (Some e) = es ++ e ∷ []
+with_last es (Some o) = es ++ entry_of_open o ∷ []
 
 -- the last entry does not go on
 abbrev pub closed : SoFar → SoFar
@@ -116,23 +129,23 @@ closed s = record { groups = s.groups; entries = with_last s.entries s.last; las
 abbrev pub catalogue_so_far : SoFar → Catalogue
 catalogue_so_far s = record { groups = s.groups; entries = with_last s.entries s.last }
 
-abbrev pub goes_on : SoFar → Option Entry → (Entry → Result Entry Mistake) → Result SoFar Mistake
+abbrev pub goes_on : SoFar → Option Open → (Open → Result Open Mistake) → Result SoFar Mistake
 goes_on s None f = Err mistake.NoEntry
-goes_on s (Some e) f = after (f e) (λ changed. Ok (record s { last = Some changed }))
+goes_on s (Some o) f = after (f o) (λ changed. Ok (record s { last = Some changed }))
 
-abbrev pub with_sentence : List ℕ → List ℕ → Entry → Result Entry Mistake
-with_sentence [] says e = Ok (record e { says = says })
-with_sentence (b ∷ bs) says e = Err mistake.SaysTwice
+abbrev pub with_sentence : List ℕ → List ℕ → Open → Result Open Mistake
+with_sentence [] says o = Ok (record o { says = says })
+with_sentence (b ∷ bs) says o = Err mistake.SaysTwice
 
-abbrev pub with_case : Case → Entry → Result Entry Mistake
-with_case c e = cond (has_its_options e.tells c) (Ok (record e { cases = e.cases ++ c ∷ [] })) (Err mistake.NoOption)
+abbrev pub with_case : Case → Open → Result Open Mistake
+with_case c o = cond (has_its_options o.tells c) (Ok (record o { cases = o.cases ++ c ∷ [] })) (Err mistake.NoOption)
 
 abbrev pub added : SoFar → Said → Result SoFar Mistake
 added s Nothing = Ok s
 added s (NewGroup g) = Ok (record s { groups = s.groups ++ g ∷ [] })
 added s (NewEntry tells name) = cond (list_any (λ e. bytes_eq e.name name) (closed s).entries) (Err mistake.NameTwice)
     (Ok (record (closed s) { last = Some (record { tells = tells; name = name; says = []; cases = [] }) }))
-added s (Says says) = goes_on s s.last (λ e. with_sentence e.says says e)
+added s (Says says) = goes_on s s.last (λ o. with_sentence o.says says o)
 added s (NewCase c) = goes_on s s.last (with_case c)
 
 -- what is read so far, with this line, in which no byte is a control character

@@ -7,6 +7,8 @@ use Rattle.scl_catalogue.specs.declared.condition.Fact.{Fact}
 use Rattle.scl_catalogue.specs.declared.condition.Fact.TheVariants as fact
 use Rattle.scl_catalogue.specs.declared.condition.Place.{Place}
 use Rattle.scl_catalogue.specs.declared.condition.Place.TheVariants as place
+use Rattle.scl_catalogue.specs.declared.entry.Brings.{Brings}
+use Rattle.scl_catalogue.specs.declared.entry.Brings.TheVariants as brings
 use Rattle.scl_catalogue.specs.declared.entry.Danger.{Danger}
 use Rattle.scl_catalogue.specs.declared.entry.Danger.TheVariants as danger
 use Rattle.scl_catalogue.specs.declared.entry.Doing.{Doing}
@@ -19,6 +21,8 @@ use Rattle.scl_catalogue.specs.declared.seen.Mark.{Mark}
 use Rattle.scl_catalogue.specs.declared.seen.Mark.TheVariants as mark
 use Rattle.scl_catalogue.specs.declared.test.Class.{Class}
 use Rattle.scl_catalogue.specs.declared.test.Class.TheVariants as class
+use Rattle.scl_catalogue_text.specs.declared.names.Kind.{Kind}
+use Rattle.scl_catalogue_text.specs.declared.names.Kind.TheVariants as kind
 
 abbrev pub class_name : Class → List ℕ
 class_name class.Option = codes "option"
@@ -176,3 +180,36 @@ naming_named word =
     cond (bytes_eq word (naming_name naming.DebugMap)) (Some naming.DebugMap) (
     cond (bytes_eq word (naming_name naming.MacroMap)) (Some naming.MacroMap) (
     cond (bytes_eq word (naming_name naming.Anything)) (Some naming.Anything) (None))))))
+
+abbrev pub brings_name : Brings → List ℕ
+brings_name brings.Folder = codes "folder"
+brings_name brings.Header = codes "header"
+brings_name brings.MacroFile = codes "macro-file"
+brings_name brings.Other = codes "other"
+brings_name brings.Dependencies = codes "dependencies"
+brings_name brings.Unknown = codes "unknown"
+
+abbrev pub brings_named : List ℕ → Option Brings
+brings_named word =
+    cond (bytes_eq word (brings_name brings.Folder)) (Some brings.Folder) (
+    cond (bytes_eq word (brings_name brings.Header)) (Some brings.Header) (
+    cond (bytes_eq word (brings_name brings.MacroFile)) (Some brings.MacroFile) (
+    cond (bytes_eq word (brings_name brings.Other)) (Some brings.Other) (
+    cond (bytes_eq word (brings_name brings.Dependencies)) (Some brings.Dependencies) (
+    cond (bytes_eq word (brings_name brings.Unknown)) (Some brings.Unknown) (None))))))
+
+-- entries that are a name and one word of a list
+abbrev pub kind_name : Kind → List ℕ
+kind_name kind.Hazard = codes "hazard"
+kind_name kind.Key = codes "key"
+kind_name kind.Run = codes "run"
+kind_name kind.Names = codes "names"
+kind_name kind.Brings = codes "brings"
+
+abbrev pub kind_named : List ℕ → Option Kind
+kind_named word =
+    cond (bytes_eq word (kind_name kind.Hazard)) (Some kind.Hazard) (
+    cond (bytes_eq word (kind_name kind.Key)) (Some kind.Key) (
+    cond (bytes_eq word (kind_name kind.Run)) (Some kind.Run) (
+    cond (bytes_eq word (kind_name kind.Names)) (Some kind.Names) (
+    cond (bytes_eq word (kind_name kind.Brings)) (Some kind.Brings) (None)))))

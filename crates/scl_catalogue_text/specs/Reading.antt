@@ -1,5 +1,5 @@
 -- How the parts of a line are read.
-use Rattle.std.specs.Prelude.{ℕ, ◌+◌, ◌-◌, ◌*◌, nat_lt, ◌==◌, Bool, true, false, cond, ◌&&◌, ◌||◌, List, [], ◌∷◌, ◌++◌, codes, Option, None, Some, option_and_then, Result, Ok, Err}
+use Rattle.std.specs.Prelude.{ℕ, ◌+◌, ◌-◌, ◌*◌, nat_lt, ◌==◌, Bool, true, false, cond, ◌&&◌, ◌||◌, List, [], ◌∷◌, ◌++◌, codes, length, Option, None, Some, option_and_then, Result, Ok, Err}
 use Rattle.std.specs.Str.{bytes_eq}
 use Rattle.scl_catalogue.specs.Form.{Pattern, Text, Demand, Marked, Value, Part, Test, Group, Relation, Any, Two, Before, Unfollowed, Last, Question, Is, At, Given, Inner, Condition, Case}
 use Rattle.scl_catalogue.specs.declared.case.Compiler.{Compiler}
@@ -7,6 +7,7 @@ use Rattle.scl_catalogue.specs.declared.case.Served.{Served}
 use Rattle.scl_catalogue.specs.declared.case.Version.{Version}
 use Rattle.scl_catalogue.specs.declared.condition.Fact.{Fact}
 use Rattle.scl_catalogue.specs.declared.condition.Place.{Place}
+use Rattle.scl_catalogue.specs.declared.text.Cut.{Cut}
 use Rattle.scl_catalogue.specs.declared.text.How.{How}
 use Rattle.scl_catalogue.specs.declared.text.How.TheVariants as how
 use Rattle.scl_catalogue_text.specs.Cutting.{first_word, from_mark, other_words, parts, until_mark, words}
@@ -78,6 +79,10 @@ pattern_unescaped p = after (unescaped p.text) (λ bs. Ok (record { how = p.how;
 
 unfoldable pub pattern_read : List ℕ → Result Pattern Mistake
 pattern_read word = after (or_mistake mistake.WrongPattern (starred_parts (parts 42 word))) pattern_unescaped
+
+-- how a pattern is cut whose text stands behind these, and the texts with it
+abbrev pub appended : List ℕ → Pattern → Cut × List ℕ
+appended bs p = (record { how = p.how; length = length p.text }, bs ++ p.text)
 
 abbrev pub not_none : List Pattern → Result (List Pattern) Mistake
 not_none [] = Err mistake.NoPattern

@@ -3,7 +3,8 @@ use Rattle.std.specs.Prelude.{◌≡◌, ℕ, nat_lt, ◌==◌, Bool, true, fals
 use Rattle.std.specs.Char.{is_ascii_control}
 use Rattle.std.specs.List.{list_all, list_any}
 use Rattle.std.specs.Str.{bytes_eq}
-use Rattle.scl_catalogue.specs.Form.{Pattern, Text, Demand, Marked, Value, Part, Test, Group, Relation, Any, Two, Before, Unfollowed, Last, Question, Is, At, Given, Inner, Condition, Case, Tells, Hazard, Effect, Reason, Plain, Key, Run, Names, Entry, Catalogue}
+use Rattle.scl_catalogue.specs.Form.{Pattern, Text, Demand, Marked, Value, Part, Test, Group, Relation, Any, Two, Before, Unfollowed, Last, Question, Is, At, Given, Inner, Condition, Case, Tells, Hazard, Effect, Plain, Key, Run, Names, Brings, Entry, Catalogue}
+use Rattle.scl_catalogue.specs.Numbered.{numbers_in}
 use Rattle.scl_catalogue.specs.declared.case.Served.{Served}
 use Rattle.scl_catalogue.specs.declared.case.Version.{Version}
 use Rattle.scl_catalogue_text.specs.Files.{file_read, has_its_options}
@@ -90,11 +91,11 @@ AreCases gs (c ∷ cs) = IsCase gs c × AreCases gs cs
 abbrev pub HasWords : Tells → Type 0
 HasWords (Hazard d) = Unit {0}
 HasWords (Effect v file) = (is_plain_word file ≡ true) × (file_read file ≡ Ok tt)
-HasWords Reason = Unit {0}
 HasWords Plain = Unit {0}
 HasWords (Key d) = Unit {0}
 HasWords (Run d) = Unit {0}
 HasWords (Names n) = Unit {0}
+HasWords (Brings b) = Unit {0}
 
 pub record IsEntry (gs : List Group) (e : Entry) : Type 0 where
   pub name : is_plain_word e.name ≡ true
@@ -102,6 +103,7 @@ pub record IsEntry (gs : List Group) (e : Entry) : Type 0 where
   pub says : lacks [] e.says ≡ true
   pub cases : AreCases gs e.cases
   pub options : list_all (has_its_options e.tells) e.cases ≡ true
+  pub numbers : e.numbers ≡ numbers_in e.cases
 
 -- each has another name than those above
 abbrev pub AreEntries : List Group → List Entry → List Entry → Type 0
@@ -112,7 +114,7 @@ abbrev pub AreGroups : List Group → List Group → Type 0
 AreGroups above [] = Unit {0}
 AreGroups above (g ∷ gs) = (is_group_name g.name ≡ true) × (are_tests g.tests ≡ true) × (group_named above g.name ≡ None) × AreGroups (above ++ g ∷ []) gs
 
--- names are words, each used once; no name, file or sentence has a control character; groups, tests and cases have something in them; bytes and versions are such; a value is one of options that a case asks for
+-- names are words, each used once; no name, file or sentence has a control character; groups, tests and cases have something in them; bytes and versions are such; a value is one of options that a case asks for; numbers are those of the cases
 pub record CanBeWritten (c : Catalogue) : Type 0 where
   pub groups : AreGroups [] c.groups
   pub entries : AreEntries c.groups [] c.entries

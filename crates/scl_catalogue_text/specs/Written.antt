@@ -2,12 +2,14 @@
 use Rattle.std.specs.Prelude.{ℕ, ◌+◌, ◌/◌, ◌%◌, nat_lt, ◌==◌, Bool, cond, not, ◌&&◌, List, [], ◌∷◌, ◌++◌, map, codes, Option, None, Some}
 use Rattle.std.specs.Fmt.{decimal}
 use Rattle.std.specs.List.{list_any}
-use Rattle.scl_catalogue.specs.Form.{Pattern, Text, Demand, Marked, Value, Part, Test, Group, Relation, Any, Two, Before, Unfollowed, Last, Question, Is, At, Given, Inner, Condition, Case, Tells, Hazard, Effect, Reason, Plain, Key, Run, Names, Entry, Catalogue}
-use Rattle.scl_catalogue_text.specs.Names.{class_name, mark_name, fact_name, place_name, compiler_name, danger_name, doing_name, naming_name, verb_name}
+use Rattle.scl_catalogue.specs.Form.{Pattern, Text, Demand, Marked, Value, Part, Test, Group, Relation, Any, Two, Before, Unfollowed, Last, Question, Is, At, Given, Inner, Condition, Case, Tells, Hazard, Effect, Plain, Key, Run, Names, Brings, Entry, Catalogue}
+use Rattle.scl_catalogue_text.specs.Names.{brings_name, class_name, mark_name, fact_name, place_name, compiler_name, danger_name, doing_name, kind_name, naming_name, verb_name}
 use Rattle.scl_catalogue.specs.declared.case.Served.{Served}
 use Rattle.scl_catalogue.specs.declared.case.Version.{Version}
 use Rattle.scl_catalogue.specs.declared.text.How.{How}
 use Rattle.scl_catalogue.specs.declared.text.How.TheVariants as how
+use Rattle.scl_catalogue_text.specs.declared.names.Kind.{Kind}
+use Rattle.scl_catalogue_text.specs.declared.names.Kind.TheVariants as kind
 
 abbrev pub all_of : List (List ℕ) → List ℕ
 all_of [] = []
@@ -113,14 +115,17 @@ served_words s = compiler_name s.compiler ∷ bound_words (codes "since") s.sinc
 abbrev pub case_text : Case → List ℕ
 case_text c = 32 ∷ joined 44 (map (λ s. spaced (served_words s)) c.served) ++ 58 ∷ joined 59 (map condition_text c.conditions)
 
+abbrev pub kind_text : Kind → (name what : List ℕ) → List ℕ
+kind_text k name what = kind_name k ++ spaced (name ∷ what ∷ [])
+
 abbrev pub head_text : Tells → List ℕ → List ℕ
-head_text (Hazard d) name = codes "hazard" ++ spaced (name ∷ danger_name d ∷ [])
+head_text (Hazard d) name = kind_text kind.Hazard name (danger_name d)
 head_text (Effect v file) name = codes "effect" ++ spaced (name ∷ verb_name v ∷ file ∷ [])
-head_text Reason name = codes "reason" ++ spaced (name ∷ [])
 head_text Plain name = codes "plain" ++ spaced (name ∷ [])
-head_text (Key d) name = codes "key" ++ spaced (name ∷ doing_name d ∷ [])
-head_text (Run d) name = codes "run" ++ spaced (name ∷ doing_name d ∷ [])
-head_text (Names n) name = codes "names" ++ spaced (name ∷ naming_name n ∷ [])
+head_text (Key d) name = kind_text kind.Key name (doing_name d)
+head_text (Run d) name = kind_text kind.Run name (doing_name d)
+head_text (Names n) name = kind_text kind.Names name (naming_name n)
+head_text (Brings b) name = kind_text kind.Brings name (brings_name b)
 
 abbrev pub entry_lines : Entry → List (List ℕ)
 entry_lines e = head_text e.tells e.name ∷ (codes "  says " ++ e.says) ∷ map case_text e.cases

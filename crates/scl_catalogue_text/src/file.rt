@@ -86,11 +86,11 @@ fn has_value(tells: &Tells) -> bool
     match tells {
         Tells::Effect(_, file) => holds(file, b"{value}"),
         Tells::Hazard(_)
-        | Tells::Reason
         | Tells::Plain
         | Tells::Key(_)
         | Tells::Run(_)
-        | Tells::Names(_) => false,
+        | Tells::Names(_)
+        | Tells::Brings(_) => false,
     }
 }
 

@@ -18,7 +18,7 @@ pub enum Mistake {
     #[error("a colon lacks")]
     NoColon,
     /// An entry's line has other words.
-    #[error("an entry is `hazard NAME DANGER`, `effect NAME VERB FILE`, `reason NAME`, `plain NAME`, `key NAME DOES`, `run NAME DOES` or `names NAME WHAT`")]
+    #[error("an entry is `hazard NAME DANGER`, `effect NAME VERB FILE`, `plain NAME`, `key NAME DOES`, `run NAME DOES`, `names NAME WHAT` or `brings NAME WHAT`")]
     WrongEntry,
     /// The danger is none of those that are known.
     #[error("a danger is `object`, `failure`, `side-file`, `messages` or `run`")]
@@ -32,6 +32,9 @@ pub enum Mistake {
     /// What an object names is none of what is known.
     #[error("an object names `nothing`, `debug-info`, `maps-files`, `maps-debug-info`, `maps-macros` or `anything`")]
     UnknownNaming,
+    /// What a word brings in is none of what is known.
+    #[error("a word brings in a `folder`, a `header`, a `macro-file`, `other`, `dependencies` or `unknown`")]
+    UnknownBrings,
     /// A group's line has other words before its colon.
     #[error("a group is `group NAME: TESTS`")]
     WrongGroup,

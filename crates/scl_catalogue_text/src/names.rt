@@ -1,9 +1,19 @@
 //! The words by which a catalogue's text names things.
 ghost use Rattle.std.specs.Prelude.{◌≡◌};
 ghost use Rattle.std.specs.Str.{bytes_eq};
-ghost use Rattle.scl_catalogue_text.specs.Names.{class_named, compiler_named, danger_named, doing_named, fact_named, mark_named, naming_named, place_named, verb_named};
+ghost use Rattle.scl_catalogue_text.specs.Names.{brings_named, class_named, compiler_named, danger_named, doing_named, fact_named, kind_named, mark_named, naming_named, place_named, verb_named};
 
-use scl_catalogue::{Class, Compiler, Danger, Doing, Fact, Mark, Naming, Place, Verb};
+use scl_catalogue::{Brings, Class, Compiler, Danger, Doing, Fact, Mark, Naming, Place, Verb};
+
+/// The entries that are a name and one word of a list.
+#[derive(Clone, Copy, Debug, PartialEq, Eq)]
+pub(crate) enum Kind {
+    Hazard,
+    Key,
+    Run,
+    Names,
+    Brings,
+}
 
 /// Whether the word is this name.
 pub(crate) fn is(word: &[u8], name: &str) -> bool
@@ -191,6 +201,44 @@ pub(crate) fn naming_named(word: &[u8]) -> Option<Naming>
         Some(Naming::MacroMap)
     } else if is(word, "anything") {
         Some(Naming::Anything)
+    } else {
+        None
+    }
+}
+
+pub(crate) fn brings_named(word: &[u8]) -> Option<Brings>
+    ensures { result ≡ brings_named word.now }
+{
+    if is(word, "folder") {
+        Some(Brings::Folder)
+    } else if is(word, "header") {
+        Some(Brings::Header)
+    } else if is(word, "macro-file") {
+        Some(Brings::MacroFile)
+    } else if is(word, "other") {
+        Some(Brings::Other)
+    } else if is(word, "dependencies") {
+        Some(Brings::Dependencies)
+    } else if is(word, "unknown") {
+        Some(Brings::Unknown)
+    } else {
+        None
+    }
+}
+
+pub(crate) fn kind_named(word: &[u8]) -> Option<Kind>
+    ensures { result ≡ kind_named word.now }
+{
+    if is(word, "hazard") {
+        Some(Kind::Hazard)
+    } else if is(word, "key") {
+        Some(Kind::Key)
+    } else if is(word, "run") {
+        Some(Kind::Run)
+    } else if is(word, "names") {
+        Some(Kind::Names)
+    } else if is(word, "brings") {
+        Some(Kind::Brings)
     } else {
         None
     }

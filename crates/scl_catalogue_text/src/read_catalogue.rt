@@ -18,14 +18,22 @@ use scl_catalogue::{Case, Catalogue, Entry, Group, Tells};
 use scl_values::Mem;
 use std::alloc::Global;
 
+/// An entry whose cases are being read.
+#[derive(Drop)]
+struct Open {
+    tells: Tells,
+    name: Vec<u8>,
+    says: Vec<u8>,
+    cases: Vec<Case>,
+}
+
 /// What is read so far.
 #[derive(Drop)]
 struct Reader {
     alloc: Global,
     groups: Vec<Group>,
     entries: Vec<Entry>,
-    /// The entry whose cases are being read.
-    open: Option<Entry>,
+    open: Option<Open>,
 }
 
 fn has_name(entries: &[Entry], name: &[u8]) -> bool
@@ -54,7 +62,8 @@ impl Reader {
     fn close(&mut self) -> Mem<()>
         ensures { OnOk result (so_far self.new ≡ closed (so_far self.old)) }
     {
-        if let Some(entry) = self.open.take() {
+        if let Some(open) = self.open.take() {
+            let entry = Entry::new(open.tells, open.name, open.says, open.cases);
             self.entries.push(entry)?;
         }
         Ok(())
@@ -67,7 +76,7 @@ impl Reader {
         if has_name(&self.entries, &name) {
             return Err(Stop::Mistake(Mistake::NameTwice));
         }
-        self.open = Some(Entry {
+        self.open = Some(Open {
             tells,
             name,
             says: Vec::new(self.alloc),

@@ -1,14 +1,17 @@
 //! Reads a line of a catalogue.
 ghost use Rattle.std.specs.Prelude.{◌≡◌, map, Ok};
+ghost use Rattle.std.specs.Option.{option_map};
 ghost use Rattle.scl_catalogue.specs.Views.{group_of, tells_of};
-ghost use Rattle.scl_catalogue_text.specs.Lines.{effect_read, group_line_by, group_line_read, hazard_read, is_comment, key_read, line_by, line_read, name_read, naming_read, run_read, without_first, word_line_by, NewEntry};
+ghost use Rattle.scl_catalogue_text.specs.Lines.{effect_read, group_line_by, group_line_read, is_comment, kind_read, line_by, line_of_kind, line_read, mistake_of, name_read, tells_named, without_first, NewEntry};
 ghost use Rattle.scl_catalogue_text.specs.Outcome.{Reads};
 ghost use Rattle.scl_catalogue_text.specs.SaidViews.{said_of};
 
 use crate::cut::{cut_at, first_word, has_word, words};
 use crate::file::check_file;
 use crate::mistake::{Mistake, Part, Stop};
-use crate::names::{danger_named, doing_named, is, naming_named, verb_named};
+use crate::names::{
+    Kind, brings_named, danger_named, doing_named, is, kind_named, naming_named, verb_named,
+};
 use crate::read_case::case;
 use crate::read_test::{group_named, tests};
 use scl_catalogue::{Case, Group, Tells};
@@ -32,19 +35,6 @@ fn entry(alloc: Global, tells: Tells, name: &[u8]) -> Part<Said>
     Ok(Said::Entry(tells, name))
 }
 
-#[tactic(auto, unfolding(crate::specs::Lines::hazard_read))]
-fn hazard(alloc: Global, words: &[&[u8]]) -> Part<Said>
-    ensures { Reads said_of result (hazard_read (map (λ word. word.now) words.now)) }
-{
-    let [name, danger] = words else {
-        return Err(Stop::Mistake(Mistake::WrongEntry));
-    };
-    match danger_named(danger) {
-        Some(danger) => entry(alloc, Tells::Hazard(danger), name),
-        None => Err(Stop::Mistake(Mistake::UnknownDanger)),
-    }
-}
-
 #[tactic(auto, unfolding(crate::specs::Lines::effect_read))]
 fn effect(alloc: Global, words: &[&[u8]]) -> Part<Said>
     ensures { Reads said_of result (effect_read (map (λ word. word.now) words.now)) }
@@ -60,42 +50,42 @@ fn effect(alloc: Global, words: &[&[u8]]) -> Part<Said>
     entry(alloc, Tells::Effect(verb, file), name)
 }
 
-#[tactic(auto, unfolding(crate::specs::Lines::key_read))]
-fn key(alloc: Global, words: &[&[u8]]) -> Part<Said>
-    ensures { Reads said_of result (key_read (map (λ word. word.now) words.now)) }
+/// What is wrong with a word that is none of the list.
+fn mistake_of(kind: Kind) -> Mistake
+    ensures { result ≡ mistake_of kind }
 {
-    let [name, doing] = words else {
-        return Err(Stop::Mistake(Mistake::WrongEntry));
-    };
-    match doing_named(doing) {
-        Some(doing) => entry(alloc, Tells::Key(doing), name),
-        None => Err(Stop::Mistake(Mistake::UnknownDoing)),
+    match kind {
+        Kind::Hazard => Mistake::UnknownDanger,
+        Kind::Key | Kind::Run => Mistake::UnknownDoing,
+        Kind::Names => Mistake::UnknownNaming,
+        Kind::Brings => Mistake::UnknownBrings,
     }
 }
 
-#[tactic(auto, unfolding(crate::specs::Lines::run_read))]
-fn run(alloc: Global, words: &[&[u8]]) -> Part<Said>
-    ensures { Reads said_of result (run_read (map (λ word. word.now) words.now)) }
+/// What an entry of the kind states that has this word.
+fn tells_named(kind: Kind, what: &[u8]) -> Option<Tells>
+    ensures { option_map tells_of result ≡ tells_named kind what.now }
 {
-    let [name, doing] = words else {
-        return Err(Stop::Mistake(Mistake::WrongEntry));
-    };
-    match doing_named(doing) {
-        Some(doing) => entry(alloc, Tells::Run(doing), name),
-        None => Err(Stop::Mistake(Mistake::UnknownDoing)),
+    match kind {
+        Kind::Hazard => Some(Tells::Hazard(danger_named(what)?)),
+        Kind::Key => Some(Tells::Key(doing_named(what)?)),
+        Kind::Run => Some(Tells::Run(doing_named(what)?)),
+        Kind::Names => Some(Tells::Names(naming_named(what)?)),
+        Kind::Brings => Some(Tells::Brings(brings_named(what)?)),
     }
 }
 
-#[tactic(auto, unfolding(crate::specs::Lines::naming_read))]
-fn naming(alloc: Global, words: &[&[u8]]) -> Part<Said>
-    ensures { Reads said_of result (naming_read (map (λ word. word.now) words.now)) }
+/// An entry that is a name and one word of a list.
+#[tactic(auto, unfolding(crate::specs::Lines::kind_read))]
+fn entry_of_kind(alloc: Global, kind: Kind, words: &[&[u8]]) -> Part<Said>
+    ensures { Reads said_of result (kind_read kind (map (λ word. word.now) words.now)) }
 {
-    let [name, naming] = words else {
+    let [name, what] = words else {
         return Err(Stop::Mistake(Mistake::WrongEntry));
     };
-    match naming_named(naming) {
-        Some(naming) => entry(alloc, Tells::Names(naming), name),
-        None => Err(Stop::Mistake(Mistake::UnknownNaming)),
+    match tells_named(kind, what) {
+        Some(tells) => entry(alloc, tells, name),
+        None => Err(Stop::Mistake(mistake_of(kind))),
     }
 }
 
@@ -151,28 +141,19 @@ fn without_first(bytes: &[u8]) -> &[u8]
     }
 }
 
-/// An entry that says something of words, or a case; the line begins with this word, and goes on with the others.
-#[tactic(auto, unfolding(crate::specs::Lines::word_line_by))]
-fn word_line_named(
+/// An entry of this kind, whose words are the others, or a case.
+fn line_of_kind(
     alloc: Global,
     groups: &[Group],
-    word: &[u8],
+    kind: Option<Kind>,
     others: &[u8],
     line: &[u8],
 ) -> Part<Said>
-    ensures { Reads said_of result (word_line_by (map group_of groups.now) word.now others.now line.now) }
+    ensures { Reads said_of result (line_of_kind (map group_of groups.now) kind others.now line.now) }
 {
-    if is(word, "key") {
+    if let Some(kind) = kind {
         let words = words(alloc, others)?;
-        return key(alloc, &words);
-    }
-    if is(word, "run") {
-        let words = words(alloc, others)?;
-        return run(alloc, &words);
-    }
-    if is(word, "names") {
-        let words = words(alloc, others)?;
-        return naming(alloc, &words);
+        return entry_of_kind(alloc, kind, &words);
     }
     let case = case(alloc, groups, line)?;
     Ok(Said::Case(case))
@@ -196,23 +177,15 @@ fn line_named(
     if is(word, "group") {
         return group(alloc, groups, others);
     }
-    if is(word, "hazard") {
-        let words = words(alloc, others)?;
-        return hazard(alloc, &words);
-    }
     if is(word, "effect") {
         let words = words(alloc, others)?;
         return effect(alloc, &words);
-    }
-    if is(word, "reason") {
-        let words = words(alloc, others)?;
-        return named(alloc, Tells::Reason, &words);
     }
     if is(word, "plain") {
         let words = words(alloc, others)?;
         return named(alloc, Tells::Plain, &words);
     }
-    word_line_named(alloc, groups, word, others, line)
+    line_of_kind(alloc, groups, kind_named(word), others, line)
 }
 
 fn is_comment(line: &[u8]) -> bool

@@ -1,15 +1,16 @@
 //! Reads patterns.
-ghost use Rattle.std.specs.Prelude.{◌≡◌, ◌<◌, ◌++◌, ◌∷◌, ◌==◌, ◌&&◌, not, map, None, IfSome, MatchOption, Ok};
+ghost use Rattle.std.specs.Prelude.{◌≡◌, ◌<◌, ◌++◌, ◌==◌, ◌&&◌, not, true, map, None, IfOk, IfSome, MatchOption, Ok};
 ghost use Rattle.std.specs.Option.{option_map};
-ghost use Rattle.scl_catalogue.specs.Views.{pattern_of, text_of};
+ghost use Rattle.scl_catalogue.specs.Views.{patterns_of, text_of};
 ghost use Rattle.std.specs.List.{list_any};
 ghost use Rattle.scl_catalogue_text.specs.Cutting.{words};
 ghost use Rattle.scl_catalogue_text.specs.Outcome.{after, each, Reads};
-ghost use Rattle.scl_catalogue_text.specs.Reading.{digit, escape, escapes, hex_byte, pattern_as, pattern_read, patterns_read, starred_parts, text_of_parts, text_read, text_with, text_without, unescaped};
+ghost use Rattle.scl_catalogue_text.specs.Reading.{appended, digit, escape, escapes, hex_byte, pattern_as, pattern_read, patterns_read, starred_parts, text_of_parts, text_read, text_with, text_without, unescaped};
 
 use crate::cut::{is_one_part, lacks, next_word, parts};
 use crate::mistake::{Mistake, Part, Stop};
-use scl_catalogue::{How, Pattern, Text};
+use scl_catalogue::{Cut, How, Patterns, Text};
+use scl_values::Mem;
 use std::alloc::Global;
 
 fn digit(byte: u8) -> Option<u8>
@@ -99,17 +100,29 @@ fn starred<'a>(parts: &[&'a [u8]]) -> Option<(How, &'a [u8])>
     }
 }
 
-/// A pattern with stars elsewhere than at its end, or with escapes.
+/// Appends the text of a pattern to those of others, and says how it is cut from them.
+fn push_text(texts: &mut Vec<u8>, how: How, text: &[u8]) -> Mem<Cut>
+    ensures { IfOk result (λ cut. (cut, texts.new.items) ≡ appended texts.old.items (record { how = how; text = text.now })) }
+{
+    texts.extend_from_slice(text)?;
+    Ok(Cut {
+        how,
+        length: text.len(),
+    })
+}
+
+/// Appends the text of a pattern with stars within it, or with escapes.
 #[tactic(auto, unfolding(crate::specs::Reading::pattern_read))]
-fn pattern_with_marks(alloc: Global, word: &[u8]) -> Part<Pattern>
-    ensures { Reads pattern_of result (pattern_read word.now) }
+fn push_with_marks(alloc: Global, texts: &mut Vec<u8>, word: &[u8]) -> Part<Cut>
+    ensures { Reads (λ cut. (cut, texts.new.items)) result (after (pattern_read word.now) (λ p. Ok (appended texts.old.items p))) }
 {
     let parts = parts(alloc, word, b'*')?;
     let Some((how, text)) = starred(&parts) else {
         return Err(Stop::Mistake(Mistake::WrongPattern));
     };
     let text = unescaped(alloc, text)?;
-    Ok(Pattern { how, text })
+    let cut = push_text(texts, how, &text)?;
+    Ok(cut)
 }
 
 /// Whether neither a star nor a backslash stands there.
@@ -119,62 +132,58 @@ fn is_plain(bytes: &[u8]) -> bool
     lacks(bytes, b'*') && lacks(bytes, b'\\')
 }
 
-#[tactic(auto, using(crate::proofs::PlainLemmas::plain_is, crate::proofs::PlainLemmas::plain_begins))]
-fn pattern(alloc: Global, word: &[u8]) -> Part<Pattern>
-    ensures { Reads pattern_of result (pattern_read word.now) }
+/// The word without its stars, where they stand last, or first and last; and how it is compared if no mark stands in the rest.
+#[tactic(auto, using(crate::proofs::PlainLemmas::plain_is, crate::proofs::PlainLemmas::plain_begins, crate::proofs::PlainLemmas::plain_holds))]
+fn bare(word: &[u8]) -> (How, &[u8])
+    ensures { (not (list_any (λ byte. byte == 42) result.1.now) && not (list_any (λ byte. byte == 92) result.1.now)) ≡ true → pattern_read word.now ≡ Ok (record { how = result.0; text = result.1.now }) }
 {
-    if let Some((last, text)) = word.split_last()
+    if let Some((last, front)) = word.split_last()
         && *last == b'*'
-        && is_plain(text)
     {
-        let text = Vec::from_slice(alloc, text)?;
-        return Ok(Pattern {
-            how: How::Begins,
-            text,
-        });
+        return match front.split_first() {
+            Some((first, text)) if *first == b'*' => (How::Holds, text),
+            _ => (How::Begins, front),
+        };
     }
-    if is_plain(word) {
-        let text = Vec::from_slice(alloc, word)?;
-        return Ok(Pattern { how: How::Is, text });
-    }
-    pattern_with_marks(alloc, word)
+    (How::Is, word)
 }
 
-#[tactic(auto, using(crate::proofs::EachLemmas::each_last))]
-fn push_patterns(alloc: Global, all: &mut Vec<Pattern>, bytes: &[u8]) -> Part<()>
-    ensures { Reads (λ _. map pattern_of all.new.items) result (after (each pattern_read (words bytes.now)) (λ more. Ok (map pattern_of all.old.items ++ more))) }
+/// Appends the text of the pattern, and says how it is cut from those of others.
+fn push_pattern(alloc: Global, texts: &mut Vec<u8>, word: &[u8]) -> Part<Cut>
+    ensures { Reads (λ cut. (cut, texts.new.items)) result (after (pattern_read word.now) (λ p. Ok (appended texts.old.items p))) }
 {
+    let (how, text) = bare(word);
+    if is_plain(text) {
+        let cut = push_text(texts, how, text)?;
+        return Ok(cut);
+    }
+    push_with_marks(alloc, texts, word)
+}
+
+#[tactic(auto, using(crate::proofs::PatternLemmas::pattern_first, crate::proofs::PatternLemmas::pattern_last, crate::proofs::PatternLemmas::pattern_stop))]
+fn each_pattern(alloc: Global, bytes: &[u8]) -> Part<Patterns>
+    ensures { Reads patterns_of result (each pattern_read (words bytes.now)) }
+{
+    let mut texts = Vec::with_capacity(alloc, bytes.len())?;
+    let mut cuts = Vec::with_capacity(alloc, bytes.len() / 8 + 1)?;
     let mut left = bytes;
     while let Some((word, others)) = next_word(left) {
-        let one = pattern(alloc, word)?;
-        all.push(one)?;
+        let cut = push_pattern(alloc, &mut texts, word)?;
+        cuts.push(cut)?;
         left = others;
     }
-    Ok(())
+    Ok(Patterns { texts, cuts })
 }
 
-/// A pattern, and those after it.
-fn with_patterns(alloc: Global, first: Pattern, bytes: &[u8]) -> Part<Vec<Pattern>>
-    ensures { Reads (λ all. map pattern_of all.items) result (after (each pattern_read (words bytes.now)) (λ more. Ok (pattern_of first ∷ more))) }
+#[tactic(auto, unfolding(crate::specs::Reading::patterns_read), using(crate::proofs::PatternLemmas::pattern_some))]
+fn patterns(alloc: Global, bytes: &[u8]) -> Part<Patterns>
+    ensures { Reads patterns_of result (patterns_read bytes.now) }
 {
-    let mut all = Vec::with_capacity(alloc, bytes.len() / 8 + 2)?;
-    all.push(first)?;
-    push_patterns(alloc, &mut all, bytes)?;
-    Ok(all)
-}
-
-#[tactic(auto, unfolding(crate::specs::Reading::patterns_read))]
-fn patterns(alloc: Global, bytes: &[u8]) -> Part<Vec<Pattern>>
-    ensures { Reads (λ all. map pattern_of all.items) result (patterns_read bytes.now) }
-{
-    let Some((word, others)) = next_word(bytes) else {
+    let all = each_pattern(alloc, bytes)?;
+    if all.cuts.is_empty() {
         return Err(Stop::Mistake(Mistake::NoPattern));
-    };
-    let first = pattern(alloc, word)?;
-    if next_word(others).is_some() {
-        return with_patterns(alloc, first, others);
     }
-    Ok(vec![in alloc; first]?)
+    Ok(all)
 }
 
 #[tactic(auto, unfolding(crate::specs::Reading::text_with))]
@@ -193,7 +202,10 @@ fn text_without(alloc: Global, any: &[u8]) -> Part<Text>
     let any = patterns(alloc, any)?;
     Ok(Text {
         any,
-        but: Vec::new(alloc),
+        but: Patterns {
+            texts: Vec::new(alloc),
+            cuts: Vec::new(alloc),
+        },
     })
 }
 

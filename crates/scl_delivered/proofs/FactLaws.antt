@@ -1,22 +1,19 @@
 -- The facts of a key as it is delivered are those of the record that it states.
-use Rattle.std.proofs.Common.{◌≡◌, ℕ, ◌==◌, ◌&&◌, not, Bool, true, false, cond, List, [], ◌∷◌, ◌++◌, codes, filter, length, map, Some, None, is_some, unwrap_or, refl, sym, ap, ◌∙◌, append-nil, if◌then◌else◌}
+use Rattle.std.proofs.Common.{◌≡◌, ℕ, ◌==◌, ◌&&◌, not, Bool, true, false, cond, List, [], ◌∷◌, ◌++◌, codes, filter, length, map, Some, None, is_some, refl, sym, ap, ◌∙◌, append-nil, if◌then◌else◌}
 use Rattle.std.proofs.lemmas.Grind.{flat_map-append}
 use Rattle.std.proofs.lemmas.List.Elements.{filter-append}
 use Rattle.std.specs.List.{list_any}
 use Rattle.std.specs.Str.{bytes_eq}
 use Rattle.scl_catalogue.specs.Lookup.{Lexicon}
 use Rattle.scl_text.specs.Records.{Parsed}
-use Rattle.scl_description.specs.Records.{file_entries, output_entries, record_by, record_entries, source_entries, switch_entries}
-use Rattle.scl_description.specs.Rows.{Entry, entry, entry_rows, lone, rests_at, rows_of, words_entry}
-use Rattle.scl_description.proofs.RecordLaws.{record-found, rests-found}
+use Rattle.scl_description.specs.Records.{file_entries, output_entries, record_entries, source_entries, switch_entries}
+use Rattle.scl_description.specs.Rows.{Entry, entry, entry_rows, lone, rows_of, words_entry}
 use Rattle.scl_reader.specs.declared.compiler.Compiler.{Compiler}
-use Rattle.scl_reader.specs.declared.compiler.Compiler.TheVariants as compilers
-use Rattle.scl_reader.specs.Compilers.{compiler_named, name_of}
-use Rattle.scl_key.specs.Given.{shows}
+use Rattle.scl_key.specs.Known.{shows}
 use Rattle.scl_key.specs.Keys.{key_of, whole_key}
 use Rattle.scl_key.specs.Parts.{Part, is, output, directory, compiler, plan, asked, run, run_else, pch, sources, times}
-use Rattle.scl_key.specs.Told.{RunWords, flat_pairs, key_record, run_words_fields, told, told_entries, told_entry, yes_or_no}
-use Rattle.scl_key.proofs.KeyLaws.{fact_of, facts_in}
+use Rattle.scl_key.specs.Told.{RunWords, flat_pairs, key_record, run_words_fields}
+use Rattle.scl_key.proofs.KeyLaws.{fact_of, facts_in, facts-told, first_rows, rows_told}
 use Rattle.scl_key.proofs.HitLaws.{facts-of-key}
 use Rattle.scl_shared_key.specs.Objects.{is_macro}
 use Rattle.scl_delivered.specs.Delivered.{with_macros}
@@ -145,37 +142,6 @@ record_left p = ap (with_common p) (lone_left p.common_args)
 
 -- ---- the facts of a key
 
--- the facts beside the record
-abbrev pub first_rows : Compiler → List (List ℕ × List ℕ) → RunWords → Bool → List (List (List ℕ))
-first_rows c e r is_shown =
-    (codes "version" ∷ codes "1" ∷ [])
-    ∷ (codes "compiler" ∷ name_of c ∷ [])
-    ∷ (codes "shown" ∷ yes_or_no is_shown ∷ [])
-    ∷ (codes "run-words" ∷ run_words_fields r)
-    ∷ (codes "environment" ∷ flat_pairs e)
-    ∷ []
-
--- the facts of a command line with this record
-abbrev pub rows_told : Compiler → List (List ℕ × List ℕ) → RunWords → Bool → Parsed → List (List (List ℕ))
-rows_told c e r is_shown p = first_rows c e r is_shown ++ rows_of (record_entries p)
-
-facts_entry : (rows : List (List (List ℕ))) → facts_in (map is rows) ≡ rows
-facts_entry [] = refl
-facts_entry (row ∷ rows) = ap (λ rs. row ∷ rs) (facts_entry rows)
-
-facts_entries : (es : List Entry) → facts_in (told_entries es) ≡ rows_of es
-unfolding told_entry
-facts_entries [] = refl
-facts_entries (e ∷ es) =
-    flat_map-append fact_of (told_entry e) (told_entries es)
-    ∙ ap (λ rows. rows ++ facts_in (told_entries es)) (facts_entry (entry_rows e))
-    ∙ ap (λ rows. entry_rows e ++ rows) (facts_entries es)
-
-facts_told : (lexicon : Compiler → Lexicon) (c : Compiler) (e : List (List ℕ × List ℕ)) (r : RunWords) (p : Parsed)
-    → facts_in (told (lexicon c) c e r p) ≡ rows_told c e r (shows (lexicon c) c p) (key_record (lexicon c) c p)
-facts_told lexicon c e r p =
-    ap (λ rows. first_rows c e r (shows (lexicon c) c p) ++ rows) (facts_entries (record_entries (key_record (lexicon c) c p)))
-
 no_facts : (parts : List Part) → list_any is_fact parts ≡ false → facts_in parts ≡ []
 no_facts [] h = refl
 no_facts (is row ∷ parts) h = absurd (let no : true ≡ false = h in cc)
@@ -197,7 +163,7 @@ facts_added lexicon c e r p added none =
     ∙ ap (λ rows. facts_in (key_of (lexicon c) c e r p) ++ rows) (no_facts added none)
     ∙ append-nil (facts_in (key_of (lexicon c) c e r p))
     ∙ facts-of-key lexicon c e r p
-    ∙ facts_told lexicon c e r p
+    ∙ facts-told (shows (lexicon c) c p) c e r p
 
 first_left : (c : Compiler) (e : List (List ℕ × List ℕ)) (r : RunWords) (is_shown : Bool) → filter is_left (first_rows c e r is_shown) ≡ first_rows c e r is_shown
 first_left c e r is_shown = rw (other_row (codes "run-words") (run_words_fields r) refl, other_row (codes "environment") (flat_pairs e) refl) refl
@@ -219,57 +185,3 @@ facts_delivered lexicon true c e r p added none some =
     ∙ told_left c e r (shows (lexicon c) c p) (key_record (lexicon c) c p)
     ∙ ap (λ b. rows_told c e r (shows (lexicon c) c p) (cond b (key_record (lexicon c) c p) (without (key_record (lexicon c) c p)))) (sym (some refl))
 facts_delivered lexicon false c e r p added none some = facts_added lexicon c e r p added none
-
--- ---- the facts decide
-
-abbrev tail_of : List (List (List ℕ)) → List (List (List ℕ))
-tail_of [] = []
-tail_of (row ∷ rows) = rows
-
-abbrev rest_of_first : List (List (List ℕ)) → List (List ℕ)
-rest_of_first [] = []
-rest_of_first ([] ∷ rows) = []
-rest_of_first ((name ∷ rest) ∷ rows) = rest
-
-abbrev first_of : List (List ℕ) → List ℕ
-first_of [] = []
-first_of (field ∷ fields) = field
-
-name_back : (c : Compiler) → compiler_named (name_of c) ≡ Some c
-name_back c = elim c as (λ d. compiler_named (name_of d) ≡ Some d) [
-  | compilers.Gcc ↦ refl
-  | compilers.Gxx ↦ refl
-  | compilers.Clang ↦ refl
-  | compilers.Clangxx ↦ refl
-  | compilers.Cl ↦ refl
-  | compilers.ClangCl ↦ refl
-  | compilers.Diab ↦ refl
-  | compilers.Tasking ↦ refl
-]
-
-one_compiler : (a b : Compiler) → name_of a ≡ name_of b → a ≡ b
-one_compiler a b h = ap (λ o. unwrap_or o a) (sym (name_back a) ∙ ap compiler_named h ∙ name_back b)
-
-said_back : (b : Bool) → bytes_eq (yes_or_no b) (codes "yes") ≡ b
-said_back true = refl
-said_back false = refl
-
-record_back : (p : Parsed) → record_by (rests_at (rows_of (record_entries p))) ≡ p
-record_back p = ap record_by (λ i name. rests-found (record_entries p) name i) ∙ record-found p
-
--- two command lines of which the same is told
-pub record AreToldAlike (a b : Compiler) (e f : List (List ℕ × List ℕ)) (r s : RunWords) (x y : Bool) (p q : Parsed) : Type 0 where
-  pub compiler_is : a ≡ b
-  pub shows_is : x ≡ y
-  pub run_words_are : run_words_fields r ≡ run_words_fields s
-  pub environment_is : flat_pairs e ≡ flat_pairs f
-  pub record_is : p ≡ q
-
-pub rows_decide : (a b : Compiler) (e f : List (List ℕ × List ℕ)) (r s : RunWords) (x y : Bool) (p q : Parsed) → rows_told a e r x p ≡ rows_told b f s y q → AreToldAlike a b e f r s x y p q
-rows_decide a b e f r s x y p q h = record {
-  compiler_is = one_compiler a b (ap (λ rows. first_of (rest_of_first (tail_of rows))) h);
-  shows_is = sym (said_back x) ∙ ap (λ rows. bytes_eq (first_of (rest_of_first (tail_of (tail_of rows)))) (codes "yes")) h ∙ said_back y;
-  run_words_are = ap (λ rows. rest_of_first (tail_of (tail_of (tail_of rows)))) h;
-  environment_is = ap (λ rows. rest_of_first (tail_of (tail_of (tail_of (tail_of rows))))) h;
-  record_is = sym (record_back p) ∙ ap (λ rows. record_by (rests_at (tail_of (tail_of (tail_of (tail_of (tail_of rows))))))) h ∙ record_back q;
-}

@@ -11,18 +11,18 @@ use Rattle.scl_description.specs.Records.{first_field}
 use Rattle.scl_reader.specs.declared.compiler.Compiler.{Compiler}
 use Rattle.scl_key.specs.declared.part.Ask.{Ask}
 use Rattle.scl_key.specs.declared.part.Ask.TheVariants as asks
-use Rattle.scl_key.specs.Given.{shows}
+use Rattle.scl_key.specs.Known.{shows}
 use Rattle.scl_key.specs.Keys.{Key, whole_key}
 use Rattle.scl_key.specs.Parts.{Part, is, output, directory, compiler, plan, asked, run, run_else, pch, sources, times, hashed, is_asked}
 use Rattle.scl_key.specs.Told.{key_record}
 use Rattle.scl_key.specs.Laws.{World, answered, answers, material, CanBeHashed}
 use Rattle.scl_key.proofs.HitLaws.{answered_by, front, head_text, is_none, one-row, tail_texts}
-use Rattle.scl_key.proofs.KeyLaws.{fact_of, facts_in}
+use Rattle.scl_key.proofs.KeyLaws.{AreToldAlike, fact_of, facts_in, rows-decide, rows_told}
 use Rattle.scl_delivered.specs.Delivered.{Delivered, leaves_macros_out}
 use Rattle.scl_delivered.specs.Hits.{Line, ShownWorld, with_added, key_of_line, stated, counting, shown_fields, shown_texts, is_fact, AreAlikeLines, DeliveredHitsAreRight}
 use Rattle.scl_delivered.specs.Macros.{defines, macros_in, runs_in}
 use Rattle.scl_delivered.proofs.DeliveredLaws.{leaving}
-use Rattle.scl_delivered.proofs.FactLaws.{AreToldAlike, facts_delivered, rows_decide, rows_told, without}
+use Rattle.scl_delivered.proofs.FactLaws.{facts_delivered, without}
 
 -- ---- what is hashed of a row says what it is of
 
@@ -163,7 +163,7 @@ AreOneLine lexicon l m =
 pub lines_decide : (lexicon : Compiler → Lexicon) (l m : Line) → list_any is_fact l.added ≡ false → list_any is_fact m.added ≡ false → facts_in (key_of_line lexicon l).parts ≡ facts_in (key_of_line lexicon m).parts
     → AreOneLine lexicon l m
 lines_decide lexicon l m none neither h =
-    rows_decide l.compiler m.compiler l.environment m.environment l.run_words m.run_words (shows (lexicon l.compiler) l.compiler l.parsed) (shows (lexicon m.compiler) m.compiler m.parsed) (stated lexicon l) (stated lexicon m)
+    rows-decide l.compiler m.compiler l.environment m.environment l.run_words m.run_words (shows (lexicon l.compiler) l.compiler l.parsed) (shows (lexicon m.compiler) m.compiler m.parsed) (stated lexicon l) (stated lexicon m)
     (sym (facts_of_line lexicon l none) ∙ h ∙ facts_of_line lexicon m neither)
 
 -- ---- words of the preprocessor

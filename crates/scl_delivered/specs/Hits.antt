@@ -8,7 +8,7 @@ use Rattle.scl_base_dirs.specs.Unmapped.{unmapped}
 use Rattle.scl_description.specs.Rows.{IsRow, lone, row_text}
 use Rattle.scl_reader.specs.declared.compiler.Compiler.{Compiler}
 use Rattle.scl_key.specs.Directs.{may_direct}
-use Rattle.scl_key.specs.Given.{shows}
+use Rattle.scl_key.specs.Known.{shows}
 use Rattle.scl_key.specs.Keys.{Key, whole_key}
 use Rattle.scl_key.specs.Parts.{Part, is, hashed}
 use Rattle.scl_key.specs.Told.{RunWords, flat_pairs, key_record, run_words_fields}

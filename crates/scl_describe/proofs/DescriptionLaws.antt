@@ -2,6 +2,7 @@
 use Rattle.std.proofs.Common.{◌≡◌, ℕ, true, false, cond, List, [], ◌∷◌, ◌++◌, map, codes, Option, refl, ap, sym, subst, ◌∙◌, append-nil, append_assoc}
 use Rattle.std.specs.List.{flat_map}
 use Rattle.std.proofs.lemmas.Grind.{flat_map-append}
+use Rattle.scl_catalogue.specs.Form.{Catalogue}
 use Rattle.scl_catalogue.specs.Lookup.{Lexicon}
 use Rattle.scl_values.specs.Each.{Each}
 use Rattle.scl_values.specs.Escaped.{escaped}
@@ -17,7 +18,6 @@ use Rattle.scl_description.specs.Lines.{line}
 use Rattle.scl_description.specs.Rows.{Entry, IsRow, lone, row_text, rows_text, rows_of, entry, entry_text, entries_text}
 use Rattle.scl_description.specs.Records.{record_entries, record_in}
 use Rattle.scl_description.proofs.RecordLaws.{description-back-among}
-use Rattle.scl_hazards.specs.Hazards.{Tables}
 use Rattle.scl_hazards.specs.Told.{Told, given as given_told}
 use Rattle.scl_rows.specs.Rows.{refused_at, told}
 use Rattle.scl_rows.specs.declared.row.Row.{Row}
@@ -70,10 +70,10 @@ abbrev all_entries : List Entry → Entry → Told → Option (List ℕ) → Que
 all_entries outcome options telling writes asks kept =
     version_entry ∷ [] ++ outcome ++ (options ∷ told_entries telling ++ (writes_entry writes ∷ question_entries asks ++ last_entries kept))
 
-entries-are : (tables : Tables) (s : Settings) (r : Request) (made : Description) → AreOf tables s r made → entries_given made ≡ entries_for tables s r
-entries-are tables s r made are =
+entries-are : (catalogue : Catalogue) (s : Settings) (r : Request) (made : Description) → AreOf catalogue s r made → entries_given made ≡ entries_for catalogue s r
+entries-are catalogue s r made are =
     let runs : List (List (List ℕ)) = runs_of made.runs.items in
-    let kept : Kept = kept_with (lexicon_by tables s.version r.compiler) s r (told_for tables s r) (answer_to r) (reading_by r.compiler r) in
+    let kept : Kept = kept_with (lexicon_by catalogue s.version r.compiler) s r (told_for catalogue s r) (answer_to r) (reading_by r.compiler r) in
     let outcome : outcome_given made ≡ outcome_entries s r kept (answer_to r) (reading_by r.compiler r) =
     ap (λ k. outcome_rows runs k (refused_at (map told made.options.items)) made.answer) are.kept
     ∙ ap (λ rows. outcome_rows runs kept (refused_at rows) made.answer) are.options
@@ -83,21 +83,21 @@ entries-are tables s r made are =
     ap (λ es. all_entries es (options_given made.options.items) (given_told made.told) (path_of made.writes) (given made.questions) (kept_told made.kept)) outcome
     ∙ ap (λ e. all_entries there e (given_told made.told) (path_of made.writes) (given made.questions) (kept_told made.kept)) options
     ∙ ap (λ is. all_entries there (options_entry (rows_for s r)) is (path_of made.writes) (given made.questions) (kept_told made.kept)) are.told
-    ∙ ap (λ path. all_entries there (options_entry (rows_for s r)) (told_for tables s r) path (given made.questions) (kept_told made.kept)) are.writes
-    ∙ ap (λ asks. all_entries there (options_entry (rows_for s r)) (told_for tables s r) (writes_for s r) asks (kept_told made.kept)) are.questions
-    ∙ ap (λ k. all_entries there (options_entry (rows_for s r)) (told_for tables s r) (writes_for s r) (questions_for s r) k) are.kept
+    ∙ ap (λ path. all_entries there (options_entry (rows_for s r)) (told_for catalogue s r) path (given made.questions) (kept_told made.kept)) are.writes
+    ∙ ap (λ asks. all_entries there (options_entry (rows_for s r)) (told_for catalogue s r) (writes_for s r) asks (kept_told made.kept)) are.questions
+    ∙ ap (λ k. all_entries there (options_entry (rows_for s r)) (told_for catalogue s r) (writes_for s r) (questions_for s r) k) are.kept
 
 -- the text of what is described of a request is its description
-pub is-description : (tables : Tables) (s : Settings) (r : Request) (text : List ℕ) (made : Description) → has_at_most s.limits r ≡ true → AreOf tables s r made
-    → text ≡ text_given made → text ≡ description tables s r
-is-description tables s r text made within are is =
+pub is-description : (catalogue : Catalogue) (s : Settings) (r : Request) (text : List ℕ) (made : Description) → has_at_most s.limits r ≡ true → AreOf catalogue s r made
+    → text ≡ text_given made → text ≡ description catalogue s r
+is-description catalogue s r text made within are is =
     is
     ∙ ap (λ a. text_of a ++ entries_text (entries_given made)) are.answer
-    ∙ ap (λ es. text_of (answer_to r) ++ entries_text es) (entries-are tables s r made are)
-    ∙ ap (λ b. cond b (text_of (answer_to r) ++ entries_text (entries_for tables s r)) (entries_text too_many_entries)) (sym within)
+    ∙ ap (λ es. text_of (answer_to r) ++ entries_text es) (entries-are catalogue s r made are)
+    ∙ ap (λ b. cond b (text_of (answer_to r) ++ entries_text (entries_for catalogue s r)) (entries_text too_many_entries)) (sym within)
 
-pub too-long : (tables : Tables) (s : Settings) (r : Request) (text : List ℕ) → has_at_most s.limits r ≡ false → text ≡ entries_text too_many_entries → text ≡ description tables s r
-too-long tables s r text within is = is ∙ ap (λ b. cond b (text_of (answer_to r) ++ entries_text (entries_for tables s r)) (entries_text too_many_entries)) (sym within)
+pub too-long : (catalogue : Catalogue) (s : Settings) (r : Request) (text : List ℕ) → has_at_most s.limits r ≡ false → text ≡ entries_text too_many_entries → text ≡ description catalogue s r
+too-long catalogue s r text within is = is ∙ ap (λ b. cond b (text_of (answer_to r) ++ entries_text (entries_for catalogue s r)) (entries_text too_many_entries)) (sym within)
 
 -- ---- a record is read back
 
@@ -125,10 +125,10 @@ abbrev in_order : (before after : List Entry) → Parsed → List Entry
 in_order before after p = before ++ record_entries p ++ after
 
 pub descriptions-back : DescriptionsReadBack
-descriptions-back tables s r words kept p within compiles reads are =
+descriptions-back catalogue s r words kept p within compiles reads are =
     let environment : List (List ℕ × List ℕ) = environment_by r.compiler r.environment in
-    let telling : Told = told_for tables s r in
-    let keeping : Kept = kept_with (lexicon_by tables s.version r.compiler) s r telling (answer_to r) (reading_by r.compiler r) in
+    let telling : Told = told_for catalogue s r in
+    let keeping : Kept = kept_with (lexicon_by catalogue s.version r.compiler) s r telling (answer_to r) (reading_by r.compiler r) in
     let after : List Entry = runs_entry (runs_for s r.compiler p) ∷ environment_entry environment ∷ kept_entries keeping in
     let last : List Entry = writes_entry (writes_for s r) ∷ question_entries (questions_for s r) ++ last_entries keeping in
     let asks : List Entry = options_entry (rows_for s r) ∷ told_entries telling ++ last in
@@ -137,16 +137,16 @@ descriptions-back tables s r words kept p within compiles reads are =
     ap (λ a. outcome_entries s r keeping a (reading_by r.compiler r)) compiles ∙ ap (outcome_entries s r keeping (compiled words kept)) reads in
     let beside : Each IsBeside (after ++ asks) =
     each-both IsBeside after asks (refl, (refl, kept-beside keeping)) (refl, each-both IsBeside (told_entries telling) last (refl, effects-beside telling.effects) (refl, (refl, (refl, (refl, last-beside keeping))))) in
-    let entries : command_entries words kept ++ entries_for tables s r ≡ in_order before (after ++ asks) p =
+    let entries : command_entries words kept ++ entries_for catalogue s r ≡ in_order before (after ++ asks) p =
     ap (λ es. command_entries words kept ++ (version_entry ∷ [] ++ es ++ asks)) outcome
     ∙ ap (λ es. command_entries words kept ++ (version_entry ∷ es)) (append_assoc (record_entries p) after asks)
     ∙ sym (append_assoc (command_entries words kept) (version_entry ∷ []) (record_entries p ++ (after ++ asks)))
     ∙ sym (append_assoc before (record_entries p) (after ++ asks)) in
-    let text : description tables s r ≡ entries_text (in_order before (after ++ asks) p) =
-    ap (λ b. cond b (text_of (answer_to r) ++ entries_text (entries_for tables s r)) (entries_text too_many_entries)) within
-    ∙ ap (λ a. text_of a ++ entries_text (entries_for tables s r)) compiles
-    ∙ ap (λ t. t ++ entries_text (entries_for tables s r)) (command-rows words kept)
-    ∙ sym (flat_map-append entry_text (command_entries words kept) (entries_for tables s r))
+    let text : description catalogue s r ≡ entries_text (in_order before (after ++ asks) p) =
+    ap (λ b. cond b (text_of (answer_to r) ++ entries_text (entries_for catalogue s r)) (entries_text too_many_entries)) within
+    ∙ ap (λ a. text_of a ++ entries_text (entries_for catalogue s r)) compiles
+    ∙ ap (λ t. t ++ entries_text (entries_for catalogue s r)) (command-rows words kept)
+    ∙ sym (flat_map-append entry_text (command_entries words kept) (entries_for catalogue s r))
     ∙ ap entries_text entries in
     ap record_in text
     ∙ description-back-among before (after ++ asks) p (command-beside words kept) beside (subst (λ es. Each IsRow (rows_of es)) entries are)

@@ -1,8 +1,8 @@
 -- What is described of the reading of a request's line is described of the request.
 use Rattle.std.proofs.Common.{◌≡◌, ℕ, true, false, List, [], Result, Ok, ap, subst, sym, refl, ◌∙◌}
+use Rattle.scl_catalogue.specs.Form.{Catalogue}
 use Rattle.scl_description.specs.Lines.{lines_of}
 use Rattle.scl_description.specs.Rows.{entries_text}
-use Rattle.scl_hazards.specs.Hazards.{Tables}
 use Rattle.scl_hazards.specs.Told.{given as given_told}
 use Rattle.scl_reader.proofs.ReadLaws.{IsOf, answer_of_read, readings-say}
 use Rattle.scl_reader.specs.Answers.{answer_to, reading_by}
@@ -20,8 +20,8 @@ use Rattle.scl_describe.specs.declared.described.Description.{Description}
 use Rattle.scl_describe.proofs.DescriptionLaws.{is-description, kept-is, too-long}
 
 -- what is described of the reading of a request's line is of the request
-pub described-of : (tables : Tables) (s : Settings) (request : Request) (made : Description) → IsDescribed tables s (read_of request) (given_in request) made → AreOf tables s request made
-described-of tables s request made h =
+pub described-of : (catalogue : Catalogue) (s : Settings) (request : Request) (made : Description) → IsDescribed catalogue s (read_of request) (given_in request) made → AreOf catalogue s request made
+described-of catalogue s request made h =
     let said : IsReadBy request = readings-say request in
     let is : IsOf request [] made.answer = answer_of_read request [] made.answer (read_of request) refl h.answer in
     record {
@@ -29,38 +29,38 @@ described-of tables s request made h =
       parts = is.parts;
       runs = h.runs ∙ ap (λ c. runs_given s c (outcome_in (read_of request))) said.compiler ∙ ap (runs_given s request.compiler) said.outcome;
       kept =
-          h.kept ∙ ap (λ c. kept_given (lexicon_by tables s.version c) s c request.words (given_told made.told) made.answer) said.compiler
-          ∙ kept-is (lexicon_by tables s.version request.compiler) s request (given_told made.told) made.answer is.is is.parts
-          ∙ ap (λ telling. kept_with (lexicon_by tables s.version request.compiler) s request telling (answer_to request) (reading_by request.compiler request)) h.told;
+          h.kept ∙ ap (λ c. kept_given (lexicon_by catalogue s.version c) s c request.words (given_told made.told) made.answer) said.compiler
+          ∙ kept-is (lexicon_by catalogue s.version request.compiler) s request (given_told made.told) made.answer is.is is.parts
+          ∙ ap (λ telling. kept_with (lexicon_by catalogue s.version request.compiler) s request telling (answer_to request) (reading_by request.compiler request)) h.told;
       options = h.options;
       told = h.told;
       writes = h.writes ∙ ap (λ c. writes_by s c (outcome_in (read_of request))) said.compiler ∙ ap (writes_by s request.compiler) said.outcome;
       questions = h.questions;
     }
 
-pub is_of : (tables : Tables) (s : Settings) (request : Request) (reading : Reading) (line : Given) (made : Description) → reading ≡ read_of request → line ≡ given_in request
-    → IsDescribed tables s reading line made → AreOf tables s request made
-is_of tables s request reading line made read its h =
-    described-of tables s request made (subst (λ g. IsDescribed tables s (read_of request) g made) its (subst (λ r. IsDescribed tables s r line made) read h))
+pub is_of : (catalogue : Catalogue) (s : Settings) (request : Request) (reading : Reading) (line : Given) (made : Description) → reading ≡ read_of request → line ≡ given_in request
+    → IsDescribed catalogue s reading line made → AreOf catalogue s request made
+is_of catalogue s request reading line made read its h =
+    described-of catalogue s request made (subst (λ g. IsDescribed catalogue s (read_of request) g made) its (subst (λ r. IsDescribed catalogue s r line made) read h))
 
-module _ (tables : Tables) (s : Settings) (request : Request) (line : Given) (is_its : line ≡ given_in request) where
+module _ (catalogue : Catalogue) (s : Settings) (request : Request) (line : Given) (is_its : line ≡ given_in request) where
   abbrev there : Given → Request
   there = asked_for request.compiler
 
   pub is_described : (reading : Reading) (made : Description) (text : List ℕ) → (has_at_most s.limits (there line) ≡ true) × (reading ≡ read_of (there line))
-      → IsDescribed tables s reading line made → text ≡ text_given made → text ≡ description tables s request
+      → IsDescribed catalogue s reading line made → text ≡ text_given made → text ≡ description catalogue s request
   is_described reading made text read its is =
       let On : Given → Type 0 = λ g. (has_at_most s.limits (there g) ≡ true) × (reading ≡ read_of (there g)) in
       let here : On (given_in request) = subst On is_its read in
-      is-description tables s request text made here.0 (is_of tables s request reading line made here.1 is_its its) is
+      is-description catalogue s request text made here.0 (is_of catalogue s request reading line made here.1 is_its its) is
 
-  pub is_too_long : (text : List ℕ) → has_at_most s.limits (there line) ≡ false → text ≡ entries_text too_many_entries → text ≡ description tables s request
-  is_too_long text within is = too-long tables s request text (subst (λ g. has_at_most s.limits (there g) ≡ false) is_its within) is
+  pub is_too_long : (text : List ℕ) → has_at_most s.limits (there line) ≡ false → text ≡ entries_text too_many_entries → text ≡ description catalogue s request
+  is_too_long text within is = too-long catalogue s request text (subst (λ g. has_at_most s.limits (there g) ≡ false) is_its within) is
 
 -- the description of a request that bytes make, by their settings, is a description of these bytes
-pub describes_bytes : (tables : Tables) (bytes text : List ℕ) (s : Settings) (request : Request) → s ≡ settings_in (lines_of bytes) → request_in (request_lines (lines_of bytes)) ≡ Ok request
-    → text ≡ description tables s request → DescribesBytes tables bytes (Ok text)
-describes_bytes tables bytes text s request set made is =
-    let Made : Result Request ℕ → Type 0 = λ r. IsDescriptionOf tables (settings_in (lines_of bytes)) r (Ok text) in
-    let By : Settings → Type 0 = λ t. text ≡ description tables t request in
+pub describes_bytes : (catalogue : Catalogue) (bytes text : List ℕ) (s : Settings) (request : Request) → s ≡ settings_in (lines_of bytes) → request_in (request_lines (lines_of bytes)) ≡ Ok request
+    → text ≡ description catalogue s request → DescribesBytes catalogue bytes (Ok text)
+describes_bytes catalogue bytes text s request set made is =
+    let Made : Result Request ℕ → Type 0 = λ r. IsDescriptionOf catalogue (settings_in (lines_of bytes)) r (Ok text) in
+    let By : Settings → Type 0 = λ t. text ≡ description catalogue t request in
     subst Made (sym made) (subst By set is)

@@ -10,7 +10,7 @@ use Rattle.scl_msvc.specs.Reads.{expanded_between, read_by_both}
 use Rattle.scl_rows.proofs.GnuTells.{gnu-given, gnu-tells}
 use Rattle.scl_rows.proofs.MsvcTells.{msvc-given, msvc-tells}
 use Rattle.scl_rows.proofs.SmallTells.{small-given, small-tells}
-use Rattle.scl_rows.specs.KindNames.{diab_kind_name, tasking_kind_name}
+use Rattle.scl_kinds.specs.KindNames.{diab_kind_name, tasking_kind_name}
 use Rattle.scl_rows.specs.MsvcRows.{msvc_rows}
 use Rattle.scl_rows.specs.Rows.{Tells, words_given}
 use Rattle.scl_small.specs.DiabReading as diab

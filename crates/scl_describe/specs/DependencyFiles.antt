@@ -17,6 +17,6 @@ dependency_path outputs = option_map (λ output. output.path) (find (λ output. 
 abbrev pub dependency_file : Compiler → Parsed → Option (List ℕ)
 dependency_file compiler p = if is_gcc compiler || is_clang compiler then dependency_path (made_beside p) else None
 
--- of a command line that is read so; it comes with what the tables report
+-- of a command line that is read so; it comes with what the catalogue reports
 abbrev pub writes_by : Settings → Compiler → Result Parsed Verdict → Option (List ℕ)
 writes_by s compiler outcome = if (wanted s).tables || (wanted s).key then option_and_then (dependency_file compiler) (result_ok outcome) else None

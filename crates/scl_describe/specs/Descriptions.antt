@@ -1,5 +1,6 @@
 -- The description of the answer to a request: the answer's lines, and after them rows of what was read.
 use Rattle.std.specs.Prelude.{◌≡◌, ℕ, true, List, [], ◌∷◌, ◌++◌, map, codes, Option, Result, Ok, Err, unwrap_or, if◌then◌else◌}
+use Rattle.scl_catalogue.specs.Form.{Catalogue}
 use Rattle.scl_catalogue.specs.Lookup.{Lexicon}
 use Rattle.scl_values.specs.Each.{Each}
 use Rattle.scl_text.specs.declared.records.Cacheable.{Cacheable}
@@ -7,7 +8,7 @@ use Rattle.scl_text.specs.declared.records.Cacheable.TheVariants as cacheable
 use Rattle.scl_text.specs.Records.{Parsed, Verdict}
 use Rattle.scl_reasons.specs.Explanations.{text_for}
 use Rattle.scl_reasons.specs.Table.{other, table}
-use Rattle.scl_hazards.specs.Hazards.{Hazard, Tables}
+use Rattle.scl_hazards.specs.Hazards.{Hazard}
 use Rattle.scl_hazards.specs.Told.{Told}
 use Rattle.scl_rows.specs.Rows.{Told as RowTold, refused_at}
 use Rattle.scl_description.specs.Lines.{lines_of}
@@ -87,12 +88,12 @@ question_entries q = wants_entry (codes "file") q.files ∷ wants_entry (codes "
 
 -- ---- all of it
 
--- what is reported of the options, by the tables, and of the view, as far as it is wanted
+-- what is reported of the options, by the catalogue, and of the view, as far as it is wanted
 abbrev pub rows_for : Settings → Request → List RowTold
 rows_for s request = if_wanted (wanted s).options (rows_by request)
 
-abbrev pub told_for : Tables → Settings → Request → Told
-told_for tables s request = told_if (wanted s) (told_by (known_by tables s.version) request)
+abbrev pub told_for : Catalogue → Settings → Request → Told
+told_for catalogue s request = told_if (wanted s) (told_by (known_by catalogue s.version) request)
 
 abbrev pub writes_for : Settings → Request → Option (List ℕ)
 writes_for s request = writes_by s request.compiler (reading_by request.compiler request)
@@ -135,27 +136,27 @@ entries_kept s request told kept =
 abbrev pub entries_with : Lexicon → Settings → Request → Told → List Entry
 entries_with l s request told = entries_kept s request told (kept_with l s request told (answer_to request) (reading_by request.compiler request))
 
-abbrev pub entries_for : Tables → Settings → Request → List Entry
-entries_for tables s request = entries_with (lexicon_by tables s.version request.compiler) s request (told_for tables s request)
+abbrev pub entries_for : Catalogue → Settings → Request → List Entry
+entries_for catalogue s request = entries_with (lexicon_by catalogue s.version request.compiler) s request (told_for catalogue s request)
 
 -- where a command line has more words than the limit
 abbrev pub too_many_entries : List Entry
 too_many_entries = lone_entry (codes "too-many-words") ∷ version_entry ∷ []
 
-abbrev pub description : Tables → Settings → Request → List ℕ
-description tables s request =
-    if has_at_most s.limits request then text_of (answer_to request) ++ entries_text (entries_for tables s request) else entries_text too_many_entries
+abbrev pub description : Catalogue → Settings → Request → List ℕ
+description catalogue s request =
+    if has_at_most s.limits request then text_of (answer_to request) ++ entries_text (entries_for catalogue s request) else entries_text too_many_entries
 
 -- what a description of the request may be, or the number of its bad line
-abbrev pub IsDescriptionOf : Tables → Settings → Result Request ℕ → Result (List ℕ) ℕ → Type 0
-IsDescriptionOf tables s (Ok request) (Ok text) = text ≡ description tables s request
-IsDescriptionOf tables s (Err n) (Err m) = n ≡ m
-IsDescriptionOf tables s (Ok request) (Err m) = ⊥
-IsDescriptionOf tables s (Err n) (Ok text) = ⊥
+abbrev pub IsDescriptionOf : Catalogue → Settings → Result Request ℕ → Result (List ℕ) ℕ → Type 0
+IsDescriptionOf catalogue s (Ok request) (Ok text) = text ≡ description catalogue s request
+IsDescriptionOf catalogue s (Err n) (Err m) = n ≡ m
+IsDescriptionOf catalogue s (Ok request) (Err m) = ⊥
+IsDescriptionOf catalogue s (Err n) (Ok text) = ⊥
 
 -- what may be answered to the bytes of a description's request: their settings and the request of their other lines
-abbrev pub DescribesBytes : Tables → List ℕ → Result (List ℕ) ℕ → Type 0
-DescribesBytes tables bytes said = IsDescriptionOf tables (settings_in (lines_of bytes)) (request_in (request_lines (lines_of bytes))) said
+abbrev pub DescribesBytes : Catalogue → List ℕ → Result (List ℕ) ℕ → Type 0
+DescribesBytes catalogue bytes said = IsDescriptionOf catalogue (settings_in (lines_of bytes)) (request_in (request_lines (lines_of bytes))) said
 
 -- ---- the answer as rows
 
@@ -177,7 +178,7 @@ answer_entries not_compilation = lone_entry (codes "not-compilation") ∷ []
 
 -- A description of a command gives the record that was read.
 abbrev pub DescriptionsReadBack : Type 0
-DescriptionsReadBack = (tables : Tables) (s : Settings) (request : Request) (words : List (List ℕ)) (kept : Cacheable) (p : Parsed)
+DescriptionsReadBack = (catalogue : Catalogue) (s : Settings) (request : Request) (words : List (List ℕ)) (kept : Cacheable) (p : Parsed)
     → has_at_most s.limits request ≡ true → answer_to request ≡ compiled words kept → reading_by request.compiler request ≡ Ok p
-    → Each IsRow (rows_of (command_entries words kept ++ entries_for tables s request))
-    → record_in (description tables s request) ≡ p
+    → Each IsRow (rows_of (command_entries words kept ++ entries_for catalogue s request))
+    → record_in (description catalogue s request) ≡ p

@@ -1,6 +1,7 @@
 -- What is described, as the code gives it, and its text.
 use Rattle.std.specs.Prelude.{◌≡◌, ℕ, List, [], ◌∷◌, ◌++◌, map, Option, Result, string_bytes}
 use Rattle.std.specs.Option.{option_map}
+use Rattle.scl_catalogue.specs.Form.{Catalogue}
 use Rattle.scl_catalogue.specs.Lookup.{Lexicon}
 use Rattle.scl_rows.specs.Rows.{refused_at, told}
 use Rattle.scl_text.specs.Commands.{pairs_of}
@@ -10,7 +11,6 @@ use Rattle.scl_text.specs.declared.records.CompilerArguments.{CompilerArguments}
 use Rattle.scl_text.specs.declared.records.CompilerArguments.TheVariants as outcomes
 use Rattle.scl_cl.specs.AnswerTexts.{text_of}
 use Rattle.scl_description.specs.Rows.{Entry, entries_text, rows_of}
-use Rattle.scl_hazards.specs.Hazards.{Tables}
 use Rattle.scl_hazards.specs.Told.{Told, given as given_told}
 use Rattle.scl_key.specs.Views.{no_keys_of}
 use Rattle.scl_delivered.specs.Views.{delivered_of}
@@ -83,23 +83,23 @@ text_given made = text_of (answer_of made.answer) ++ entries_text (entries_given
 
 -- ---- what is described
 
--- it is described of a reading of a line whose program has the empty name, by tables and as settings request it
-pub record IsDescribed (tables : Tables) (s : Settings) (reading : Reading) (line : Given) (made : Description) : Type 0 where
+-- it is described of a reading of a line whose program has the empty name, by a catalogue and as settings request it
+pub record IsDescribed (catalogue : Catalogue) (s : Settings) (reading : Reading) (line : Given) (made : Description) : Type 0 where
   pub answer : AnswersReading (definitions_of (compiler_of reading)) [] (outcome_in reading) line.directory line.environment line.view made.answer
   pub runs : runs_of made.runs.items ≡ runs_given s (compiler_of reading) (outcome_in reading)
-  pub kept : kept_told made.kept ≡ kept_given (lexicon_by tables s.version (compiler_of reading)) s (compiler_of reading) line.words (given_told made.told) made.answer
+  pub kept : kept_told made.kept ≡ kept_given (lexicon_by catalogue s.version (compiler_of reading)) s (compiler_of reading) line.words (given_told made.told) made.answer
   pub options : map told made.options.items ≡ if_wanted (wanted s).options (rows_in reading)
-  pub told : given_told made.told ≡ told_if (wanted s) (told_in (known_by tables s.version) line reading)
+  pub told : given_told made.told ≡ told_if (wanted s) (told_in (known_by catalogue s.version) line reading)
   pub writes : path_of made.writes ≡ writes_by s (compiler_of reading) (outcome_in reading)
   pub questions : given made.questions ≡ questions_if (wanted s) (questions_in line reading)
 
--- its parts are of a request whose program has the empty name, by tables and as settings request them
-pub record AreOf (tables : Tables) (s : Settings) (request : Request) (made : Description) : Type 0 where
+-- its parts are of a request whose program has the empty name, by a catalogue and as settings request them
+pub record AreOf (catalogue : Catalogue) (s : Settings) (request : Request) (made : Description) : Type 0 where
   pub answer : answer_of made.answer ≡ answer_to request
   pub parts : HasParts (reading_by request.compiler request) [] (environment_by request.compiler request.environment) request.directory made.answer
   pub runs : runs_of made.runs.items ≡ runs_given s request.compiler (reading_by request.compiler request)
-  pub kept : kept_told made.kept ≡ kept_with (lexicon_by tables s.version request.compiler) s request (told_for tables s request) (answer_to request) (reading_by request.compiler request)
+  pub kept : kept_told made.kept ≡ kept_with (lexicon_by catalogue s.version request.compiler) s request (told_for catalogue s request) (answer_to request) (reading_by request.compiler request)
   pub options : map told made.options.items ≡ rows_for s request
-  pub told : given_told made.told ≡ told_for tables s request
+  pub told : given_told made.told ≡ told_for catalogue s request
   pub writes : path_of made.writes ≡ writes_for s request
   pub questions : given made.questions ≡ questions_for s request

@@ -1,15 +1,17 @@
 -- What a catalogue says of a request's command line.
 use Rattle.std.specs.Prelude.{ℕ, Bool, List, ◌∷◌, ◌++◌, Option, None, Some}
+use Rattle.scl_catalogue.specs.Form.{Catalogue}
+use Rattle.scl_catalogue.specs.Found.{OptionSeen}
 use Rattle.scl_catalogue.specs.Lookup.{Lexicon, lexicon_in}
 use Rattle.scl_catalogue.specs.declared.case.Compiler.{Compiler as Catalogued}
 use Rattle.scl_catalogue.specs.declared.case.Compiler.TheVariants as catalogue
 use Rattle.scl_catalogue.specs.declared.case.Version.{Version}
 use Rattle.scl_catalogue_text.specs.Reading.{version_read}
 use Rattle.scl_description.specs.Lines.{cut_at}
-use Rattle.scl_hazards.specs.ClangClHazards.{msvc_told}
-use Rattle.scl_hazards.specs.GnuHazards.{gnu_told}
-use Rattle.scl_hazards.specs.Hazards.{Known, Tables}
-use Rattle.scl_hazards.specs.SmallHazards.{diab_told, tasking_told}
+use Rattle.scl_hazards.specs.ClangClHazards.{cl_options, msvc_told}
+use Rattle.scl_hazards.specs.GnuHazards.{gnu_options, gnu_told}
+use Rattle.scl_hazards.specs.Hazards.{Known}
+use Rattle.scl_hazards.specs.SmallHazards.{diab_options, diab_told, tasking_options, tasking_told}
 use Rattle.scl_hazards.specs.Told.{Told}
 use Rattle.scl_reader.specs.Apple.{is_apple}
 use Rattle.scl_reader.specs.CommandLines.{Given, Request, given_in}
@@ -37,9 +39,9 @@ abbrev pub version_told : Option (List ℕ) → Option Version
 version_told None = None
 version_told (Some text) = version_read (major_and_minor text)
 
--- what tables know of a compiler whose version has this text, if it is known
-abbrev pub known_by : Tables → Option (List ℕ) → Known
-known_by tables version = record { catalogue = tables.catalogue; plain = tables.plain; version = version_told version; is_apple = is_apple version }
+-- what a catalogue knows of a compiler whose version has this text, if it is known
+abbrev pub known_by : Catalogue → Option (List ℕ) → Known
+known_by catalogue version = record { catalogue = catalogue; version = version_told version; is_apple = is_apple version }
 
 -- the compiler by which a catalogue names this one
 abbrev pub catalogued : Compiler → Catalogued
@@ -52,9 +54,16 @@ catalogued compilers.ClangCl = catalogue.ClangCl
 catalogued compilers.Diab = catalogue.Diab
 catalogued compilers.Tasking = catalogue.Tasking
 
--- what tables say of the words of a compiler's command, if its version has this text
-abbrev pub lexicon_by : Tables → Option (List ℕ) → Compiler → Lexicon
-lexicon_by tables version compiler = lexicon_in tables.catalogue (catalogued compiler) (version_told version)
+-- what a catalogue says of the words of a compiler's command, if its version has this text
+abbrev pub lexicon_by : Catalogue → Option (List ℕ) → Compiler → Lexicon
+lexicon_by catalogue version compiler = lexicon_in catalogue (catalogued compiler) (version_told version)
+
+-- the options of a reading, without its inner ones, as a catalogue's conditions see them
+abbrev pub seen_in : Reading → List OptionSeen
+seen_in (Gnu r) = gnu_options r
+seen_in (Msvc r) = cl_options r
+seen_in (Diab r) = diab_options r
+seen_in (Tasking r) = tasking_options r
 
 -- what is reported of a reading in an environment of these pairs, by whether there is a precompiled header that matters
 abbrev pub told_with : Known → List (List ℕ × List ℕ) → (has_header : Bool) → Reading → Told

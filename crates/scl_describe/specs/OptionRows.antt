@@ -1,7 +1,7 @@
 -- What is reported of the options of a request, a row each.
 use Rattle.std.specs.Prelude.{◌≡◌, ℕ, List, ◌++◌}
 use Rattle.scl_rows.specs.GnuRows.{gnu_rows}
-use Rattle.scl_rows.specs.KindNames.{diab_kind_name, tasking_kind_name}
+use Rattle.scl_kinds.specs.KindNames.{diab_kind_name, tasking_kind_name}
 use Rattle.scl_rows.specs.MsvcRows.{msvc_rows}
 use Rattle.scl_rows.specs.Rows.{Tells, Told, words_given}
 use Rattle.scl_rows.specs.SmallRows.{small_rows}

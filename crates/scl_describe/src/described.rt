@@ -1,6 +1,7 @@
 //! What is described of a command line that was read: the answer's lines, and after them rows, as a text or as values.
 ghost use Rattle.std.specs.Prelude.{◌≡◌, codes, IfOk, OnOk};
 ghost use Rattle.std.specs.Option.{option_copied};
+ghost use Rattle.scl_catalogue.specs.Views.{catalogue_of};
 ghost use Rattle.scl_values.specs.Words.{words_of};
 ghost use Rattle.scl_text.specs.Commands.{pairs_of};
 ghost use Rattle.scl_text.specs.Records.{path_of};
@@ -10,7 +11,6 @@ ghost use Rattle.scl_description.specs.Takers.{Adds};
 ghost use Rattle.scl_reader.specs.AnswersGiven.{answer_of};
 ghost use Rattle.scl_reader.specs.CommandLines.{given_by};
 ghost use Rattle.scl_reader.specs.QuestionsGiven.{given};
-ghost use Rattle.scl_hazards.specs.Hazards.{tables_of};
 ghost use Rattle.scl_hazards.specs.Told.{given as given_told};
 ghost use Rattle.scl_describe.specs.SettingsRead.{settings_by};
 ghost use Rattle.scl_describe.specs.Descriptions.{answer_entries, cacheable_name, command_entries, runs_entry, environment_entry, hazards_entry, told_entries, wants_entry, writes_entry, question_entries, refused_entries, too_many_entries, undone_entries, version_entry};
@@ -28,7 +28,7 @@ use scl_description::{
     RowList, TakesRows, tell_maybe, tell_record, tell_row, tell_row_of, tell_word, tell_words,
     tell_yes,
 };
-use scl_hazards::{Effect, Hazard, Tables, Told, Verb};
+use scl_hazards::{Catalogue, Effect, Hazard, Told, Verb};
 use scl_reader::{CommandLine, Compilation, Questions, Reading};
 use scl_reasons::sentence;
 use scl_rows::{Row, refused_at};
@@ -47,9 +47,9 @@ pub struct Description<'a> {
     pub kept: Kept,
     /// What became of each option.
     pub options: Vec<Row>,
-    /// What tables report of the compiler; the key is judged by it, so it is here where that is wanted too.
+    /// What the catalogue reports of the compiler; the key is judged by it, so it is here where that is wanted too.
     pub told: Told<'a>,
-    /// The dependency file that Gcc or Clang writes, if it is no output of the record; it comes with what tables report.
+    /// The dependency file that Gcc or Clang writes, if it is no output of the record; it comes with what the catalogue reports.
     pub writes: Option<Vec<u8>>,
     /// The questions of the answer.
     pub questions: Questions,
@@ -246,25 +246,25 @@ fn tell_version<R: TakesRows>(rows: &mut R) -> Mem<()>
 }
 
 impl<'a> Description<'a> {
-    /// What is described of a command line that was read, by tables and as settings request it.
+    /// What is described of a command line that was read, by a catalogue and as settings request it.
     pub fn of_reading(
         alloc: Global,
-        tables: &Tables<'a>,
+        catalogue: &'a Catalogue,
         settings: &Settings,
         reading: Reading,
         line: &CommandLine<'_>,
     ) -> Mem<Description<'a>>
-        ensures { IfOk result (IsDescribed (tables_of tables.now) (settings_by settings.now) reading (given_by line.now)) }
+        ensures { IfOk result (IsDescribed (catalogue_of catalogue.now) (settings_by settings.now) reading (given_by line.now)) }
     {
         let compiler = reading.compiler();
-        let lexicon = lexicon_of(alloc, tables, settings, compiler)?;
+        let lexicon = lexicon_of(alloc, catalogue, settings, compiler)?;
         let driver = Driver {
             compiler,
             lexicon: &lexicon,
         };
         let runs = runs_wanted(alloc, settings, &reading)?;
         let options = options_wanted(alloc, settings, &reading)?;
-        let told = told_wanted(alloc, tables, settings, &reading, line)?;
+        let told = told_wanted(alloc, catalogue, settings, &reading, line)?;
         let writes = writes_wanted(alloc, settings, &reading)?;
         let questions = questions_wanted(alloc, settings, &reading, line)?;
         let answer = reading.into_answer(alloc, b"", line)?;
@@ -323,7 +323,7 @@ fn tell_too_many<R: TakesRows>(rows: &mut R) -> Mem<()>
 }
 
 /// The text if a command line has too many words.
-pub(crate) fn too_many_words(alloc: Global) -> Mem<Vec<u8>>
+pub fn too_many_words(alloc: Global) -> Mem<Vec<u8>>
     ensures { IfOk result (λ text. text.items ≡ entries_text too_many_entries) }
 {
     let mut text = Vec::new(alloc);

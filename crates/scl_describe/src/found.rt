@@ -1,15 +1,15 @@
 //! What is described of a command line that was read beside its answer, as far as settings want it.
 ghost use Rattle.std.specs.Prelude.{◌≡◌, IfOk, map};
+ghost use Rattle.scl_catalogue.specs.Views.{catalogue_of, seen_of};
 ghost use Rattle.scl_rows.specs.Rows.{told};
 ghost use Rattle.scl_text.specs.Runs.{runs_of};
 ghost use Rattle.scl_reader.specs.CommandLines.{given_by};
 ghost use Rattle.scl_reader.specs.Questions.{questions_in};
 ghost use Rattle.scl_reader.specs.QuestionsGiven.{given as given_questions};
 ghost use Rattle.scl_reader.specs.Reads.{compiler_of, outcome_in};
-ghost use Rattle.scl_hazards.specs.Hazards.{tables_of};
 ghost use Rattle.scl_hazards.specs.Told.{given};
 ghost use Rattle.scl_describe.specs.DescriptionsGiven.{runs_given};
-ghost use Rattle.scl_describe.specs.Hazards.{known_by, told_in};
+ghost use Rattle.scl_describe.specs.Hazards.{known_by, seen_in, told_in};
 ghost use Rattle.scl_describe.specs.OptionRows.{rows_in};
 ghost use Rattle.scl_describe.specs.Settings.{wanted};
 ghost use Rattle.scl_describe.specs.SettingsRead.{settings_by};
@@ -17,7 +17,10 @@ ghost use Rattle.scl_describe.specs.Wants.{if_wanted, questions_if, told_if};
 
 use crate::known::known_of;
 use crate::settings::Settings;
-use scl_hazards::{Known, Tables, Told, diab_told, gnu_told, msvc_told, tasking_told};
+use scl_catalogue::Seen;
+use scl_hazards::{
+    Catalogue, Known, Told, diab_told, gnu_told, line_seen, msvc_told, tasking_told,
+};
 use scl_reader::{CommandLine, Questions, Reading};
 use scl_rows::{Row, gnu_rows, msvc_rows, small_rows};
 use scl_text::Mem;
@@ -36,6 +39,18 @@ pub fn rows_of(alloc: Global, reading: &Reading) -> Mem<Vec<Row>>
         Reading::Msvc(reading) => msvc_rows(alloc, reading),
         Reading::Diab(reading) => small_rows(alloc, reading),
         Reading::Tasking(reading) => small_rows(alloc, reading),
+    }
+}
+
+/// The options of a command line that was read, without its inner ones, as a catalogue's conditions see them.
+pub fn options_seen(alloc: Global, reading: &Reading) -> Mem<Vec<Seen<'_>>>
+    ensures { IfOk result (λ all. map seen_of all.items ≡ seen_in reading.now) }
+{
+    match reading {
+        Reading::Gnu(gnu) => line_seen(alloc, gnu.outer()),
+        Reading::Msvc(msvc) => line_seen(alloc, msvc.outer()),
+        Reading::Diab(diab) => line_seen(alloc, diab.outer()),
+        Reading::Tasking(tasking) => line_seen(alloc, tasking.outer()),
     }
 }
 
@@ -90,17 +105,17 @@ pub(crate) fn options_wanted(alloc: Global, settings: &Settings, reading: &Readi
 /// What is reported, if it is wanted, or the key, which is judged by it.
 pub(crate) fn told_wanted<'a>(
     alloc: Global,
-    tables: &Tables<'a>,
+    catalogue: &'a Catalogue,
     settings: &Settings,
     reading: &Reading,
     line: &CommandLine<'_>,
 ) -> Mem<Told<'a>>
     ensures { IfOk result (λ told. let s = settings_by settings.now in
-        given told ≡ told_if (wanted s) (told_in (known_by (tables_of tables.now) s.version) (given_by line.now) reading.now)) }
+        given told ≡ told_if (wanted s) (told_in (known_by (catalogue_of catalogue.now) s.version) (given_by line.now) reading.now)) }
 {
     let wants = settings.wanted();
     if wants.tables || wants.key {
-        told_of(alloc, &known_of(tables, settings), reading, line)
+        told_of(alloc, &known_of(catalogue, settings), reading, line)
     } else {
         Ok(Told {
             hazards: Vec::new(alloc),

@@ -1,8 +1,7 @@
 //! What is known of the compiler that is run.
 ghost use Rattle.std.specs.Prelude.{◌≡◌, IfOk};
 ghost use Rattle.std.specs.Option.{option_copied};
-ghost use Rattle.scl_catalogue.specs.Views.{lexicon_of as lexicon_told};
-ghost use Rattle.scl_hazards.specs.Hazards.{tables_of};
+ghost use Rattle.scl_catalogue.specs.Views.{catalogue_of, lexicon_of as lexicon_told};
 ghost use Rattle.scl_describe.specs.Hazards.{catalogued, known_by, lexicon_by, major_and_minor, version_told};
 ghost use Rattle.scl_describe.specs.SettingsRead.{settings_by};
 
@@ -10,7 +9,7 @@ use crate::settings::Settings;
 use scl_catalogue::{Compiler as Catalogued, Lexicon};
 use scl_catalogue_text::version;
 use scl_description::cut_at;
-use scl_hazards::{Known, Tables, Version};
+use scl_hazards::{Catalogue, Known, Version};
 use scl_reader::{Compiler, is_apple};
 use scl_text::Mem;
 use std::alloc::Global;
@@ -39,7 +38,7 @@ fn version_told(text: Option<&str>) -> Option<Version>
 }
 
 /// The compiler by which a catalogue names this one.
-fn catalogued(compiler: Compiler) -> Catalogued
+pub fn catalogued(compiler: Compiler) -> Catalogued
     ensures { result ≡ catalogued compiler }
 {
     match compiler {
@@ -52,23 +51,23 @@ fn catalogued(compiler: Compiler) -> Catalogued
     }
 }
 
-/// What tables say of the words of a compiler's command, of the version that settings give, if they do.
+/// What a catalogue says of the words of a compiler's command, of the version that settings give, if they do.
 pub(crate) fn lexicon_of<'a>(
     alloc: Global,
-    tables: &Tables<'a>,
+    catalogue: &'a Catalogue,
     settings: &Settings,
     compiler: Compiler,
 ) -> Mem<Lexicon<'a>>
-    ensures { IfOk result (λ lexicon. lexicon_told lexicon ≡ lexicon_by (tables_of tables.now) (settings_by settings.now).version compiler) }
+    ensures { IfOk result (λ lexicon. lexicon_told lexicon ≡ lexicon_by (catalogue_of catalogue.now) (settings_by settings.now).version compiler) }
 {
     let version = version_told(settings.version.as_deref());
-    Lexicon::of(alloc, tables.catalogue, catalogued(compiler), version)
+    Lexicon::of(alloc, catalogue, catalogued(compiler), version)
 }
 
-/// What tables know of the compiler whose version settings give, if they do.
-pub(crate) fn known_of<'a>(tables: &Tables<'a>, settings: &Settings) -> Known<'a>
-    ensures { result ≡ known_by (tables_of tables.now) (settings_by settings.now).version }
+/// What a catalogue knows of the compiler whose version settings give, if they do.
+pub(crate) fn known_of<'a>(catalogue: &'a Catalogue, settings: &Settings) -> Known<'a>
+    ensures { result ≡ known_by (catalogue_of catalogue.now) (settings_by settings.now).version }
 {
     let version = settings.version.as_deref();
-    Known::new(tables, version_told(version), is_apple(version))
+    Known::new(catalogue, version_told(version), is_apple(version))
 }

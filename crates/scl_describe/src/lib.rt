@@ -12,13 +12,12 @@ mod option_lines;
 mod settings;
 mod wants;
 
-pub use described::Description;
+pub use described::{Description, too_many_words};
 pub use descriptions::{Descriptions, describe};
-pub use found::rows_of;
+pub use found::{options_seen, rows_of};
 pub use keeping::{Kept, concerns_files};
-pub use scl_hazards::{
-    Catalogue, Danger, Effect, Entry, Hazard, PlainNames, Tables, Told, Verb, danger_name,
-};
+pub use known::catalogued;
+pub use scl_hazards::{Catalogue, Danger, Effect, Entry, Hazard, Told, Verb, danger_name};
 pub use scl_rows::{Destination, Origin, Row};
 pub use settings::{Settings, base_in, number_of};
 pub use wants::Wants;

@@ -46,11 +46,11 @@ values_filled l e file = if has_value file then values_spoken l e else [] ∷ []
 abbrev pub effects_told : LineSeen → Entry → Tells → List Effect
 effects_told l e (form.Hazard danger) = []
 effects_told l e (form.Effect verb file) = map (effect_of l verb file) (values_filled l e file)
-effects_told l e form.Reason = []
 effects_told l e form.Plain = []
 effects_told l e (form.Key doing) = []
 effects_told l e (form.Run doing) = []
 effects_told l e (form.Names naming) = []
+effects_told l e (form.Brings what) = []
 
 -- the effects that entries state of a line, in their order
 abbrev pub effects_among : LineSeen → List Entry → List Effect

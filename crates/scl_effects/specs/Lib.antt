@@ -1,4 +1,3 @@
 pub mod Effects
 pub mod Files
 pub mod Known
-pub mod Plain

@@ -4,10 +4,8 @@
 mod effect;
 mod file;
 mod known;
-mod plain;
 mod told;
 
 pub use effect::Effect;
 pub use known::unknown_of;
-pub use plain::{PlainNames, PlainRow};
 pub use told::effects_among;

@@ -1,12 +1,13 @@
 -- What is known of a load, or of its error, makes the reply.
 use Rattle.std.proofs.Common.{◌⊎◌, List, Result, Ok, Err, IfOk, inr, ap, subst}
 use Rattle.std.specs.declared.alloc.AllocError.{AllocError}
+use Rattle.scl_catalogue.specs.Form.{Catalogue}
 use Rattle.scl_describe.specs.Descriptions.{told_for}
 use Rattle.scl_describe.specs.DescriptionsGiven.{AreOf}
 use Rattle.scl_describe.specs.SettingsRead.{settings_by}
 use Rattle.scl_describe.specs.declared.described.Description.{Description}
 use Rattle.scl_files.specs.Views.{Viewed}
-use Rattle.scl_hazards.specs.Hazards.{Hazard, Tables}
+use Rattle.scl_hazards.specs.Hazards.{Hazard}
 use Rattle.scl_load.specs.Loads.{IsDiskError}
 use Rattle.scl_load.specs.declared.loader.LoadError.{LoadError}
 use Rattle.scl_reader.specs.Answers.{Answer}
@@ -19,17 +20,17 @@ pub is_unread : {E : Type 0} (holds : Viewed → Type 0) (fails : E → Type 0) 
     → IsNotLoaded holds case error → IsDiskError fails error → IsFailure reply → IsUnread holds fails case reply
 is_unread holds fails case error reply ends of_disk failure = record { error = error; is_not_loaded = ends; is_disk_error = of_disk; is_failure = failure }
 
-pub is_said : (tables : Tables) (holds : Viewed → Type 0) (case : Case) (says : Answer → List Hazard → Type 0) (view : Viewed) (described : Description) → IsDecided tables holds case view
-    → AreOf tables (settings_by case.settings) (request_of case view) described → says (answer_of described.answer) described.told.hazards.items → IsSaid tables holds case says
-is_said tables holds case says view described decided of said = record {
+pub is_said : (catalogue : Catalogue) (holds : Viewed → Type 0) (case : Case) (says : Answer → List Hazard → Type 0) (view : Viewed) (described : Description) → IsDecided catalogue holds case view
+    → AreOf catalogue (settings_by case.settings) (request_of case view) described → says (answer_of described.answer) described.told.hazards.items → IsSaid catalogue holds case says
+is_said catalogue holds case says view described decided of said = record {
   loaded = view;
   decided = decided;
-  said = subst (λ answer. says answer (told_for tables (settings_by case.settings) (request_of case view)).hazards) of.answer (subst (says (answer_of described.answer)) (ap (λ told. told.hazards) of.told) said);
+  said = subst (λ answer. says answer (told_for catalogue (settings_by case.settings) (request_of case view)).hazards) of.answer (subst (says (answer_of described.answer)) (ap (λ told. told.hazards) of.told) said);
 }
 
 -- so it is of what a reply says, if there is one
-pub said_reply : (U : Reply → Type 0) (tables : Tables) (holds : Viewed → Type 0) (case : Case) (says : Reply → Answer → List Hazard → Type 0) (view : Viewed) (described : Description)
-    (r : Result Reply AllocError) → IsDecided tables holds case view → AreOf tables (settings_by case.settings) (request_of case view) described
-    → IfOk r (λ reply. says reply (answer_of described.answer) described.told.hazards.items) → IfOk r (λ reply. U reply ⊎ IsSaid tables holds case (says reply))
-said_reply U tables holds case says view described (Ok reply) decided of said = inr (is_said tables holds case (says reply) view described decided of said)
-said_reply U tables holds case says view described (Err e) decided of said = tt
+pub said_reply : (U : Reply → Type 0) (catalogue : Catalogue) (holds : Viewed → Type 0) (case : Case) (says : Reply → Answer → List Hazard → Type 0) (view : Viewed) (described : Description)
+    (r : Result Reply AllocError) → IsDecided catalogue holds case view → AreOf catalogue (settings_by case.settings) (request_of case view) described
+    → IfOk r (λ reply. says reply (answer_of described.answer) described.told.hazards.items) → IfOk r (λ reply. U reply ⊎ IsSaid catalogue holds case (says reply))
+said_reply U catalogue holds case says view described (Ok reply) decided of said = inr (is_said catalogue holds case (says reply) view described decided of said)
+said_reply U catalogue holds case says view described (Err e) decided of said = tt

@@ -1,9 +1,10 @@
 -- What is said of a command line on a disk.
 use Rattle.std.specs.Prelude.{◌≡◌, List, [], Err}
+use Rattle.scl_catalogue.specs.Form.{Catalogue}
 use Rattle.scl_values.specs.Words.{words_of}
 use Rattle.scl_files.specs.Views.{Viewed}
 use Rattle.scl_text.specs.Commands.{pairs_of}
-use Rattle.scl_hazards.specs.Hazards.{Hazard, Tables}
+use Rattle.scl_hazards.specs.Hazards.{Hazard}
 use Rattle.scl_reader.specs.CommandLines.{Request, asked}
 use Rattle.scl_reader.specs.Answers.{Answer, answer_to, reading_by}
 use Rattle.scl_reader.specs.Questions.{Extends, HasNoneOf, questions_of}
@@ -34,19 +35,19 @@ abbrev pub Decides : Viewed → Case → Answer → Type 0
 Decides view case answer = (disk : Viewed) → Extends disk view → HasNoneOf disk (questions_of (request_of case view)) → answer_to (request_of case disk) ≡ answer
 
 -- what is reported of a case on each disk of which this holds is what is reported of it in the view: the answer, the record or
--- why there is none, the rows, and what the tables report
-pub record IsDecided (tables : Tables) (holds : Viewed → Type 0) (case : Case) (view : Viewed) : Type 0 where
+-- why there is none, the rows, and what the catalogue reports
+pub record IsDecided (catalogue : Catalogue) (holds : Viewed → Type 0) (case : Case) (view : Viewed) : Type 0 where
   pub answer : InEach holds case (λ held. answer_to (request_of case held) ≡ answer_to (request_of case view))
   pub outcome : InEach holds case (λ held. reading_by case.compiler (request_of case held) ≡ reading_by case.compiler (request_of case view))
   pub rows : InEach holds case (λ held. rows_by (request_of case held) ≡ rows_by (request_of case view))
-  pub told : let known = known_by tables (settings_by case.settings).version in
+  pub told : let known = known_by catalogue (settings_by case.settings).version in
       InEach holds case (λ held. told_by known (request_of case held) ≡ told_by known (request_of case view))
 
 -- of a view that decides what is reported on such disks, this is said of the answer and of the hazards, as they are wanted
-pub record IsSaid (tables : Tables) (holds : Viewed → Type 0) (case : Case) (says : Answer → List Hazard → Type 0) : Type 0 where
+pub record IsSaid (catalogue : Catalogue) (holds : Viewed → Type 0) (case : Case) (says : Answer → List Hazard → Type 0) : Type 0 where
   pub loaded : Viewed
-  pub decided : IsDecided tables holds case loaded
-  pub said : let request = request_of case loaded in says (answer_to request) (told_for tables (settings_by case.settings) request).hazards
+  pub decided : IsDecided catalogue holds case loaded
+  pub said : let request = request_of case loaded in says (answer_to request) (told_for catalogue (settings_by case.settings) request).hazards
 
 -- what is loaded for a command line: it may have as many words, with its response files in place, and open files as often as its
 -- limit says, and fewer than 2^12 files may name each the next

@@ -1,7 +1,7 @@
 //! What a command line is answered, with the questions of its answer to a disk.
 ghost use Rattle.std.specs.Prelude.{◌≡◌, IfOk, IfErr};
+ghost use Rattle.scl_catalogue.specs.Views.{catalogue_of};
 ghost use Rattle.scl_values.specs.Words.{words_of};
-ghost use Rattle.scl_hazards.specs.Hazards.{tables_of};
 ghost use Rattle.scl_reader.specs.Answers.{answer_to};
 ghost use Rattle.scl_reader.specs.AnswersGiven.{answer_of};
 ghost use Rattle.scl_reader.specs.CommandLines.{given_by, given_in};
@@ -15,7 +15,7 @@ ghost use Rattle.scl_explain.specs.Seen.{IsSeen};
 use crate::case::Case;
 use crate::logged::Logged;
 use crate::seen::Seen;
-use scl_describe::{Description, Tables};
+use scl_describe::{Catalogue, Description};
 use scl_load::{Disk, DiskLine, LoadError, Loaded, load};
 use scl_reader::{CommandLine, Mem, View};
 use std::alloc::Global;
@@ -75,19 +75,19 @@ fn load_case<D: Disk>(
 /// What is described of what was loaded, with which of these response files the view has.
 fn answer_loaded<'a>(
     alloc: Global,
-    tables: &Tables<'a>,
+    catalogue: &'a Catalogue,
     case: &Case,
     loaded: Loaded,
     paths: Vec<Vec<u8>>,
 ) -> Mem<Answered<'a>>
     requires { loaded.reading ≡ read_of (request_of case.now loaded.view) }
     ensures view { IfOk result (λ answered. answered.view ≡ loaded.view) }
-    ensures described { IfOk result (λ answered. AreOf (tables_of tables.now) (settings_by case.now.settings) (request_of case.now answered.view) answered.description) }
+    ensures described { IfOk result (λ answered. AreOf (catalogue_of catalogue.now) (settings_by case.now.settings) (request_of case.now answered.view) answered.description) }
     ensures seen { IfOk result (λ answered. IsSeen answered.view (words_of answered.response_files.items) (words_of answered.missing_files.items)) }
 {
     let Loaded { view, reading } = loaded;
     let line = line_in(case, &view);
-    let description = Description::of_reading(alloc, tables, &case.settings, reading, &line)?;
+    let description = Description::of_reading(alloc, catalogue, &case.settings, reading, &line)?;
     let Seen { found, missing } = Seen::in_view(alloc, &view, paths)?;
     Ok(Answered {
         description,
@@ -97,19 +97,19 @@ fn answer_loaded<'a>(
     })
 }
 
-/// The answer to a command line on a disk, and what is described beside it, by tables and as the settings of the case request
+/// The answer to a command line on a disk, and what is described beside it, by a catalogue and as the settings of the case request
 /// it. The disk is queried for response files, directories and other paths. What the view has of them decides the answer, also
 /// on any other disk. A read that fails is `Disk` with its error. `TooManyWords` and `TooManyRounds`: response files give more
 /// words than the case's limit or are opened more often, or 2^12 name each the next.
 pub fn answer_case<'a, D: Disk>(
     alloc: Global,
     disk: &D,
-    tables: &Tables<'a>,
+    catalogue: &'a Catalogue,
     case: &Case,
 ) -> Mem<Result<Answered<'a>, LoadError<D::Error>>>
     ensures answer { IfOk result (λ said. IfOk said (λ answered. InEach (D.holds disk.now) case.now (λ held. answer_to (request_of case.now held) ≡ answer_of answered.description.answer))) }
-    ensures described { IfOk result (λ said. IfOk said (λ answered. AreOf (tables_of tables.now) (settings_by case.now.settings) (request_of case.now answered.view) answered.description)) }
-    ensures decided { IfOk result (λ said. IfOk said (λ answered. IsDecided (tables_of tables.now) (D.holds disk.now) case.now answered.view)) }
+    ensures described { IfOk result (λ said. IfOk said (λ answered. AreOf (catalogue_of catalogue.now) (settings_by case.now.settings) (request_of case.now answered.view) answered.description)) }
+    ensures decided { IfOk result (λ said. IfOk said (λ answered. IsDecided (catalogue_of catalogue.now) (D.holds disk.now) case.now answered.view)) }
     ensures decides { IfOk result (λ said. IfOk said (λ answered. Decides answered.view case.now (answer_of answered.description.answer))) }
     ensures seen { IfOk result (λ said. IfOk said (λ answered. IsSeen answered.view (words_of answered.response_files.items) (words_of answered.missing_files.items))) }
     ensures end { IfOk result (λ said. IfErr said (IsNotLoaded (D.holds disk.now) case.now)) }
@@ -121,6 +121,6 @@ pub fn answer_case<'a, D: Disk>(
         Err(error) => return Ok(Err(error)),
     };
     let paths = logged.into_paths();
-    let answered = answer_loaded(alloc, tables, case, loaded, paths)?;
+    let answered = answer_loaded(alloc, catalogue, case, loaded, paths)?;
     Ok(Ok(answered))
 }

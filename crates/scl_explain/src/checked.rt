@@ -1,7 +1,7 @@
 //! Only the hazards of a command line.
 ghost use Rattle.std.specs.Prelude.{◌⊎◌, IfOk};
+ghost use Rattle.scl_catalogue.specs.Views.{catalogue_of};
 ghost use Rattle.scl_reader.specs.AnswersGiven.{answer_of};
-ghost use Rattle.scl_hazards.specs.Hazards.{tables_of};
 ghost use Rattle.scl_explain.specs.Replies.{IsChecked};
 ghost use Rattle.scl_explain.specs.Said.{IsCheckedReply, IsSaid, IsUnread};
 
@@ -81,9 +81,9 @@ pub fn check<D: Disk, R: Report>(
 ) -> Mem<Reply>
 where
     D::Error: Display,
-    ensures { IfOk result (λ reply. IsUnread (D.holds by.now.disk) (D.fails by.now.disk) case.now reply ⊎ IsSaid (tables_of by.now.tables) (D.holds by.now.disk) case.now (IsCheckedReply form case.now reply)) }
+    ensures { IfOk result (λ reply. IsUnread (D.holds by.now.disk) (D.fails by.now.disk) case.now reply ⊎ IsSaid (catalogue_of by.now.catalogue.now) (D.holds by.now.disk) case.now (IsCheckedReply form case.now reply)) }
 {
-    match answer_case(alloc, &by.disk, &by.tables, case)? {
+    match answer_case(alloc, &by.disk, by.catalogue, case)? {
         Ok(answered) => check_reply(alloc, case, &answered, form, &by.report),
         Err(error) => unread(alloc, &error),
     }

@@ -79,7 +79,7 @@ where
     D::Error: Display,
     ensures { IfOk result (λ reply. IsUnread (D.holds by.now.disk) (D.fails by.now.disk) case.now reply ⊎ (reply.ending ≡ ending.Answered)) }
 {
-    match answer_case(alloc, &by.disk, &by.tables, case)? {
+    match answer_case(alloc, &by.disk, by.catalogue, case)? {
         Ok(answered) => Ok(Reply {
             output: by
                 .report

@@ -2,7 +2,7 @@
 use crate::answered::Answered;
 use crate::case::Case;
 use crate::reply::Form;
-use scl_describe::Tables;
+use scl_describe::Catalogue;
 use scl_reader::Mem;
 use std::alloc::Global;
 
@@ -12,7 +12,7 @@ pub struct Means<'a, D, R> {
     /// The files.
     pub disk: D,
     /// What is known of compilers.
-    pub tables: Tables<'a>,
+    pub catalogue: &'a Catalogue,
     /// What writes the answer.
     pub report: R,
 }

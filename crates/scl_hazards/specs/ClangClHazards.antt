@@ -20,7 +20,7 @@ use Rattle.scl_text.specs.Commands.{object_of}
 use Rattle.scl_text.specs.Languages.{needs_c_preprocessing}
 use Rattle.scl_text.specs.Records.{Parsed}
 use Rattle.scl_hazards.specs.Hazards.{Known}
-use Rattle.scl_hazards.specs.KindTexts.{cl_kind_text, gnu_kind_text}
+use Rattle.scl_kinds.specs.KindNames.{cl_kind_text, gnu_kind_text}
 use Rattle.scl_hazards.specs.Languages.{language_name}
 use Rattle.scl_hazards.specs.Options.{is_hidden, options_seen}
 use Rattle.scl_hazards.specs.Told.{Told, of_record, told_of}

@@ -19,7 +19,7 @@ use Rattle.scl_text.specs.Languages.{needs_c_preprocessing}
 use Rattle.scl_text.specs.Records.{Parsed}
 use Rattle.scl_text.specs.declared.records.CCompilerKind.{CCompilerKind}
 use Rattle.scl_hazards.specs.Hazards.{Known}
-use Rattle.scl_hazards.specs.KindTexts.{gnu_kind_text}
+use Rattle.scl_kinds.specs.KindNames.{gnu_kind_text}
 use Rattle.scl_hazards.specs.Languages.{is_other_language, language_name}
 use Rattle.scl_hazards.specs.Options.{is_hidden, options_seen}
 use Rattle.scl_hazards.specs.Targets.{has_other_target, is_renamed}

@@ -9,24 +9,12 @@ use Rattle.scl_catalogue.specs.declared.case.Compiler.TheVariants as compilers
 use Rattle.scl_catalogue.specs.declared.case.Version.{Version}
 use Rattle.scl_catalogue.specs.declared.entry.Danger.{Danger}
 use Rattle.scl_catalogue.specs.declared.entry.Danger.TheVariants as dangers
-use Rattle.scl_effects.specs.Plain.{Row, rows_of}
-use Rattle.scl_catalogue.specs.Views.{catalogue_of}
-use Rattle.scl_hazards.specs.declared.known.Tables as declared
 
--- what is known of compilers: a catalogue, and names of options that read, write, ask and load nothing
-pub record Tables : Type 0 where
-  pub catalogue : Catalogue
-  pub plain : List Row
-
--- what is known of a compiler: the tables, the version that is meant, where one is given, and whether it is Apple's clang
+-- what is known of a compiler: a catalogue, the version that is meant, where one is given, and whether it is Apple's clang
 pub record Known : Type 0 where
   pub catalogue : Catalogue
-  pub plain : List Row
   pub version : Option Version
   pub is_apple : Bool
-
-abbrev pub tables_of : declared.Tables → Tables
-tables_of t = record { catalogue = catalogue_of t.catalogue.now; plain = rows_of t.plain }
 
 -- how bad a hazard is, its name, and what happens with the built command
 pub record Hazard : Type 0 where
@@ -37,11 +25,11 @@ pub record Hazard : Type 0 where
 abbrev pub told_as : Tells → List ℕ → List ℕ → Option Hazard
 told_as (form.Hazard danger) name consequence = Some (record { danger = danger; name = name; consequence = consequence })
 told_as (form.Effect verb file) name consequence = None
-told_as form.Reason name consequence = None
 told_as form.Plain name consequence = None
 told_as (form.Key doing) name consequence = None
 told_as (form.Run doing) name consequence = None
 told_as (form.Names naming) name consequence = None
+told_as (form.Brings what) name consequence = None
 
 -- the hazard that an entry states, if it states one
 abbrev pub hazard_told : Entry → Option Hazard

@@ -1,7 +1,6 @@
 pub mod ClangClHazards
 pub mod GnuHazards
 pub mod Hazards
-pub mod KindTexts
 pub mod Languages
 pub mod Options
 pub mod Serving

@@ -18,7 +18,7 @@ use Rattle.scl_text.specs.Languages.{needs_c_preprocessing}
 use Rattle.scl_text.specs.Records.{Parsed}
 use Rattle.scl_values.specs.Seen.{Seen}
 use Rattle.scl_hazards.specs.Hazards.{Known}
-use Rattle.scl_hazards.specs.KindTexts.{diab_kind_text, tasking_kind_text}
+use Rattle.scl_kinds.specs.KindNames.{diab_kind_text, tasking_kind_text}
 use Rattle.scl_hazards.specs.Languages.{language_name}
 use Rattle.scl_hazards.specs.Options.{is_hidden, options_seen}
 use Rattle.scl_hazards.specs.Told.{Told, of_record, told_of}
@@ -66,6 +66,12 @@ module _ {K : Type 0} (text : K → List ℕ) (common : Seen K → Bool) where
   -- what is reported of a reading, if it has a record
   unfoldable pub small_told : Compiler → Known → SmallRead K → Told
   small_told compiler known r = of_record (λ p. told_of known (small_line compiler known r p)) r.outcome
+
+abbrev pub diab_options : SmallRead diab_data.Kind → List OptionSeen
+diab_options = small_options diab_kind_text (goes_to diab.place places.Common)
+
+abbrev pub tasking_options : SmallRead tasking_data.Kind → List OptionSeen
+tasking_options = small_options tasking_kind_text (goes_to tasking.place places.Common)
 
 abbrev pub diab_told : Known → SmallRead diab_data.Kind → Told
 diab_told = small_told diab_kind_text (goes_to diab.place places.Common) compilers.Diab

@@ -17,7 +17,7 @@ pub record Told : Type 0 where
 
 -- what is reported of a line by what is known of its compiler
 unfoldable pub told_of : Known → LineSeen → Told
-told_of known l = record { hazards = hazards_found known.catalogue l; effects = effects_found known.catalogue l; unknown = unknown_of known.catalogue known.plain l }
+told_of known l = record { hazards = hazards_found known.catalogue l; effects = effects_found known.catalogue l; unknown = unknown_of known.catalogue l }
 
 abbrev pub nothing : Told
 nothing = record { hazards = []; effects = []; unknown = None }

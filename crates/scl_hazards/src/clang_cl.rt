@@ -9,7 +9,6 @@ ghost use Rattle.scl_hazards.specs.ClangClHazards.{cl_compiler, cl_facts, cl_inn
 ghost use Rattle.scl_hazards.specs.Told.{given, told_of};
 
 use crate::gnu::object_of;
-use crate::kind_texts::cl_kind_text;
 use crate::known::Known;
 use crate::language::language_name;
 use crate::seen::{BothSeen, Kinded, is_hidden, options_seen};
@@ -17,6 +16,7 @@ use crate::told::{Told, nothing, told_of};
 use scl_args::{Argument, Mem};
 use scl_catalogue::{Compiler, Facts, Line};
 use scl_driver_texts::{Splitter, is_split_otherwise, splits_otherwise};
+use scl_kinds::NamedKind;
 use scl_msvc_reading::msvc::{ArgData, Kind, MsvcReading, Place, place_of};
 use scl_text::path::extension;
 use scl_text::records::CompilerArguments;
@@ -26,14 +26,14 @@ use std::alloc::Global;
 impl Kinded for ArgData {
     ghost use Rattle.scl_msvc_reading.specs.Places.{goes_to};
     ghost use Rattle.scl_msvc_reading.specs.declared.msvc.place.Place.TheVariants as places;
-    ghost use Rattle.scl_hazards.specs.KindTexts.{cl_kind_text};
+    ghost use Rattle.scl_kinds.specs.KindNames.{cl_kind_text};
 
     ghost kind_text = { cl_kind_text };
 
     ghost is_common = { goes_to places.Common };
 
     fn kind_text(kind: Kind) -> &'static [u8] {
-        cl_kind_text(kind)
+        kind.text().as_bytes()
     }
 
     fn is_common(option: &Argument<ArgData>) -> bool {

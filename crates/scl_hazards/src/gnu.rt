@@ -7,7 +7,6 @@ ghost use Rattle.scl_text.specs.Records.{parsed_of};
 ghost use Rattle.scl_hazards.specs.GnuHazards.{compiler_of, gnu_facts, gnu_inner, gnu_line, gnu_options, gnu_told, line_told, splitter_of};
 ghost use Rattle.scl_hazards.specs.Told.{given, told_of};
 
-use crate::kind_texts::gnu_kind_text;
 use crate::known::Known;
 use crate::language::{is_other_language, language_name};
 use crate::seen::{BothSeen, Kinded, is_hidden, options_seen};
@@ -17,6 +16,7 @@ use scl_args::{Argument, Mem};
 use scl_catalogue::{Compiler, Facts, Line, Seen};
 use scl_driver_texts::{Splitter, splits_otherwise};
 use scl_gnu_reading::gcc::{ArgData, GnuReading, Kind, Place, place_of};
+use scl_kinds::NamedKind;
 use scl_text::outputs::output_path;
 use scl_text::path::extension;
 use scl_text::records::{CCompilerKind, CompilerArguments};
@@ -26,14 +26,14 @@ use std::alloc::Global;
 impl Kinded for ArgData {
     ghost use Rattle.scl_gnu_reading.specs.Places.{goes_to};
     ghost use Rattle.scl_gnu_reading.specs.declared.gcc.place.Place.TheVariants as places;
-    ghost use Rattle.scl_hazards.specs.KindTexts.{gnu_kind_text};
+    ghost use Rattle.scl_kinds.specs.KindNames.{gnu_kind_text};
 
     ghost kind_text = { gnu_kind_text };
 
     ghost is_common = { goes_to places.Common };
 
     fn kind_text(kind: Kind) -> &'static [u8] {
-        gnu_kind_text(kind)
+        kind.text().as_bytes()
     }
 
     fn is_common(option: &Argument<ArgData>) -> bool {

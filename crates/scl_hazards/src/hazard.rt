@@ -58,11 +58,11 @@ pub fn hazard_of(entry: &Entry) -> Option<Hazard<'_>>
             consequence: &entry.says,
         }),
         Tells::Effect(_, _)
-        | Tells::Reason
         | Tells::Plain
         | Tells::Key(_)
         | Tells::Run(_)
-        | Tells::Names(_) => None,
+        | Tells::Names(_)
+        | Tells::Brings(_) => None,
     }
 }
 

@@ -8,6 +8,7 @@ ghost use Rattle.scl_hazards.specs.Options.{bare, could_be_joined, could_stand_a
 use crate::delimiter::{Words, lacks_delimiter};
 use scl_args::{ArgDisposition, Argument, Mem, ReadArg};
 use scl_catalogue::{Marks, Seen, Standing};
+use scl_text::ReadLine;
 use scl_text::path::{extension, file_name};
 use std::alloc::Global;
 
@@ -156,4 +157,11 @@ pub(crate) fn options_seen<'a, T: Kinded>(
         all.push(option_seen(&sought, option))?;
     }
     Ok(all)
+}
+
+/// The options of a line that was read, as conditions see them.
+pub fn line_seen<'a, T: Kinded>(alloc: Global, line: &'a ReadLine<T>) -> Mem<Vec<Seen<'a>>>
+    ensures { IfOk result (λ all. map seen_of all.items ≡ options_seen T.kind_text T.is_common line.now.words line.now.line.options) }
+{
+    options_seen(alloc, line.words(), line.line().options().as_slice())
 }

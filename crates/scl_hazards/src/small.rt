@@ -6,13 +6,13 @@ ghost use Rattle.scl_hazards.specs.SmallHazards.{diab_told, line_told, small_fac
 ghost use Rattle.scl_hazards.specs.Told.{given, told_of};
 
 use crate::gnu::object_of;
-use crate::kind_texts::{diab_kind_text, tasking_kind_text};
 use crate::known::Known;
 use crate::language::language_name;
 use crate::seen::{Kinded, is_hidden, options_seen};
 use crate::told::{Told, nothing, told_of};
 use scl_args::{Argument, Mem};
 use scl_catalogue::{Compiler, Facts, Line, Seen};
+use scl_kinds::NamedKind;
 use scl_small::{Place, Rules, SmallReading, diab, place_of, tasking_vx};
 use scl_text::ParsedArguments;
 use scl_text::path::extension;
@@ -23,14 +23,14 @@ impl Kinded for diab::ArgData {
     ghost use Rattle.scl_small.specs.DiabReading.{place};
     ghost use Rattle.scl_small.specs.Places.{goes_to};
     ghost use Rattle.scl_small.specs.declared.place.Place.TheVariants as places;
-    ghost use Rattle.scl_hazards.specs.KindTexts.{diab_kind_text};
+    ghost use Rattle.scl_kinds.specs.KindNames.{diab_kind_text};
 
     ghost kind_text = { diab_kind_text };
 
     ghost is_common = { goes_to place places.Common };
 
     fn kind_text(kind: diab::Kind) -> &'static [u8] {
-        diab_kind_text(kind)
+        kind.text().as_bytes()
     }
 
     fn is_common(option: &Argument<diab::ArgData>) -> bool {
@@ -42,14 +42,14 @@ impl Kinded for tasking_vx::ArgData {
     ghost use Rattle.scl_small.specs.Places.{goes_to};
     ghost use Rattle.scl_small.specs.TaskingReading.{place};
     ghost use Rattle.scl_small.specs.declared.place.Place.TheVariants as places;
-    ghost use Rattle.scl_hazards.specs.KindTexts.{tasking_kind_text};
+    ghost use Rattle.scl_kinds.specs.KindNames.{tasking_kind_text};
 
     ghost kind_text = { tasking_kind_text };
 
     ghost is_common = { goes_to place places.Common };
 
     fn kind_text(kind: tasking_vx::Kind) -> &'static [u8] {
-        tasking_kind_text(kind)
+        kind.text().as_bytes()
     }
 
     fn is_common(option: &Argument<tasking_vx::ArgData>) -> bool {

@@ -39,7 +39,7 @@ pub(crate) fn told_of<'a>(alloc: Global, known: &Known<'a>, line: &Line<'_>) -> 
     let entries = known.catalogue().found(alloc, line)?;
     let hazards = hazards_among(alloc, &entries)?;
     let effects = effects_among(alloc, line, &entries)?;
-    let unknown = copied(alloc, unknown_of(known.catalogue(), known.plain(), line))?;
+    let unknown = copied(alloc, unknown_of(known.catalogue(), line))?;
     Ok(Told {
         hazards,
         effects,

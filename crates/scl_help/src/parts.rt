@@ -80,7 +80,7 @@ Example:
     Part {
         name: "flags",
         about: "Lists the flags of the compilers' tables, or says what one word is",
-        example: "Writes a line for each flag: how its value stands, its kind, and where its words go. Where a flag takes a value, the place is that with a value that is not refused. Of a WORD that no table has it says where it goes. All words after the compiler are its words; options of scl come before it.
+        example: "Writes a line for each flag: how its value stands, its kind, and where its words go. Where a flag takes a value, the place is that with a value that is not refused. Of a WORD that no table has it says where it goes. After each WORD comes a line for each entry of the catalogue that speaks of it in some version of the compiler: what it states, its name, and its sentence. An entry may want more than the WORD. All words after the compiler are its words; options of scl come before it.
 
 Example:
     scl flags clang

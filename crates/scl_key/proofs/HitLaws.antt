@@ -13,7 +13,7 @@ use Rattle.scl_key.specs.declared.part.Ask.{Ask}
 use Rattle.scl_key.specs.declared.part.Ask.TheVariants as asks
 use Rattle.scl_key.specs.Keys.{key_of, asked_parts, asked_each, file_parts, text_parts, precompiled_parts, source_parts, refusals, response_files, searched, stamps_times, text_is_enough, telling_of}
 use Rattle.scl_key.specs.Families.{has_plan, is_gcc, unset_variables, variables}
-use Rattle.scl_key.specs.Given.{has_macros, headers}
+use Rattle.scl_key.specs.Known.{Known, has_macros, headers, known_in}
 use Rattle.scl_key.specs.Made.{made}
 use Rattle.scl_key.specs.Parts.{Part, is, output, directory, compiler, plan, asked, run, run_else, pch, sources, times, hashed, is_asked}
 use Rattle.scl_key.specs.Reads.{files_perhaps}
@@ -172,55 +172,56 @@ no-facts-else (one ∷ words) = no-facts-else words
 no-facts-run-parts : (macros : Bool) (c : Compiler) (p : Parsed) → NoFacts (run_parts macros c p)
 no-facts-run-parts macros c p = no-facts-both (map run (key_runs macros c p)) (map run_else (runs_else c p)) (no-facts-runs (key_runs macros c p)) (no-facts-else (runs_else c p))
 
-no-facts-precompiled : (c : Compiler) (p : Parsed) → NoFacts (precompiled_parts c p)
-no-facts-precompiled c p = no-facts-if (is_gcc c) (pch (searched p) ∷ []) [] refl refl
+no-facts-precompiled : (k : Known) (c : Compiler) (p : Parsed) → NoFacts (precompiled_parts k c p)
+no-facts-precompiled k c p = no-facts-if (is_gcc c) (pch (searched k p) ∷ []) [] refl refl
 
-no-facts-sources : (g : Compiler → Lexicon) (c : Compiler) (p : Parsed) → NoFacts (source_parts (g c) c p)
-no-facts-sources g c p = no-facts-if (text_is_enough (g c) c p) (asked asks.SourcesIfShown (telling_of c) ∷ []) (sources ∷ []) refl refl
+no-facts-sources : (k : Known) (c : Compiler) (p : Parsed) → NoFacts (source_parts k c p)
+no-facts-sources k c p = no-facts-if (text_is_enough k c p) (asked asks.SourcesIfShown (telling_of c) ∷ []) (sources ∷ []) refl refl
 
-no-facts-texts : (g : Compiler → Lexicon) (c : Compiler) (p : Parsed) → NoFacts (text_parts (g c) c p)
-no-facts-texts g c p =
+no-facts-texts : (k : Known) (c : Compiler) (p : Parsed) → NoFacts (text_parts k c p)
+no-facts-texts k c p =
     let timed : List Part = cond (stamps_times c p) (times ∷ []) [] in
-    no-facts-both (run_parts (has_macros (g c) p) c p ++ precompiled_parts c p ++ source_parts (g c) c p ++ timed) (refusals p)
-    (no-facts-both (run_parts (has_macros (g c) p) c p ++ precompiled_parts c p ++ source_parts (g c) c p) timed
-    (no-facts-both (run_parts (has_macros (g c) p) c p ++ precompiled_parts c p) (source_parts (g c) c p)
-    (no-facts-both (run_parts (has_macros (g c) p) c p) (precompiled_parts c p) (no-facts-run-parts (has_macros (g c) p) c p) (no-facts-precompiled c p))
-    (no-facts-sources g c p))
+    no-facts-both (run_parts (has_macros k) c p ++ precompiled_parts k c p ++ source_parts k c p ++ timed) (refusals p)
+    (no-facts-both (run_parts (has_macros k) c p ++ precompiled_parts k c p ++ source_parts k c p) timed
+    (no-facts-both (run_parts (has_macros k) c p ++ precompiled_parts k c p) (source_parts k c p)
+    (no-facts-both (run_parts (has_macros k) c p) (precompiled_parts k c p) (no-facts-run-parts (has_macros k) c p) (no-facts-precompiled k c p))
+    (no-facts-sources k c p))
     (no-facts-if (stamps_times c p) (times ∷ []) [] refl refl))
     refl
 
-no-facts-files : (g : Compiler → Lexicon) (c : Compiler) (r : RunWords) (p : Parsed) → NoFacts (file_parts (g c) c r p)
-no-facts-files g c r p =
+no-facts-files : (k : Known) (c : Compiler) (r : RunWords) (p : Parsed) → NoFacts (file_parts k c r p)
+no-facts-files k c r p =
     let set : List Part = asked_each asks.Env (variables c) in
     let not_set : List Part = asked_each asks.Unset (unset_variables c) in
     let hashed_files : List Part = asked_each asks.File p.extra_hash_files in
     let read : List Part = asked_each asks.File (response_files r) in
-    let perhaps : List Part = asked_each asks.Maybe (files_perhaps (g c) c p) in
+    let perhaps : List Part = asked_each asks.Maybe (files_perhaps k c p) in
     no-facts-both (set ++ not_set ++ hashed_files ++ read) perhaps
     (no-facts-both (set ++ not_set ++ hashed_files) read
     (no-facts-both (set ++ not_set) hashed_files
     (no-facts-both set not_set (no-facts-asked asks.Env (variables c)) (no-facts-asked asks.Unset (unset_variables c)))
     (no-facts-asked asks.File p.extra_hash_files))
     (no-facts-asked asks.File (response_files r)))
-    (no-facts-asked asks.Maybe (files_perhaps (g c) c p))
+    (no-facts-asked asks.Maybe (files_perhaps k c p))
 
-no-facts-asking : (g : Compiler → Lexicon) (c : Compiler) (r : RunWords) (p : Parsed) → NoFacts (asked_parts (g c) c r p)
-no-facts-asking g c r p =
+no-facts-asking : (k : Known) (c : Compiler) (r : RunWords) (p : Parsed) → NoFacts (asked_parts k c r p)
+no-facts-asking k c r p =
     let first : List Part = directory ∷ compiler ∷ [] in
-    let regular : List Part = asked_each asks.Regular (p.input ∷ headers p) in
-    no-facts-both (first ++ plans c p ++ file_parts (g c) c r p ++ regular) (text_parts (g c) c p)
-    (no-facts-both (first ++ plans c p ++ file_parts (g c) c r p) regular
-    (no-facts-both (first ++ plans c p) (file_parts (g c) c r p)
+    let regular : List Part = asked_each asks.Regular (p.input ∷ headers k) in
+    no-facts-both (first ++ plans c p ++ file_parts k c r p ++ regular) (text_parts k c p)
+    (no-facts-both (first ++ plans c p ++ file_parts k c r p) regular
+    (no-facts-both (first ++ plans c p) (file_parts k c r p)
     (no-facts-both first (plans c p) refl
     (no-facts-if (has_plan c) (map plan (option_to_list (command_by c (plan_record p)))) [] (no-facts-plans (option_to_list (command_by c (plan_record p)))) refl))
-    (no-facts-files g c r p))
-    (no-facts-asked asks.Regular (p.input ∷ headers p)))
-    (no-facts-texts g c p)
+    (no-facts-files k c r p))
+    (no-facts-asked asks.Regular (p.input ∷ headers k)))
+    (no-facts-texts k c p)
 
 pub facts-of-key : (g : Compiler → Lexicon) (c : Compiler) (e : List (List ℕ × List ℕ)) (r : RunWords) (p : Parsed) → facts_in (key_of (g c) c e r p) ≡ facts_in (told (g c) c e r p)
 facts-of-key g c e r p =
-    flat_map-append fact_of (told (g c) c e r p ++ map output (made p)) (asked_parts (g c) c r p)
-    ∙ ap (λ rows. facts_in (told (g c) c e r p ++ map output (made p)) ++ rows) (no-facts-asking g c r p)
+    let asking : List Part = asked_parts (known_in (g c) p) c r p in
+    flat_map-append fact_of (told (g c) c e r p ++ map output (made p)) asking
+    ∙ ap (λ rows. facts_in (told (g c) c e r p ++ map output (made p)) ++ rows) (no-facts-asking (known_in (g c) p) c r p)
     ∙ append-nil (facts_in (told (g c) c e r p ++ map output (made p)))
     ∙ flat_map-append fact_of (told (g c) c e r p) (map output (made p))
     ∙ ap (λ rows. facts_in (told (g c) c e r p) ++ rows) (no-facts-outputs p)

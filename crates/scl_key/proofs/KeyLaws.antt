@@ -15,9 +15,9 @@ use Rattle.scl_reader.specs.Compilers.{name_of, compiler_named}
 use Rattle.scl_catalogue.specs.Lookup.{Lexicon}
 use Rattle.scl_key.specs.declared.part.Ask.{Ask}
 use Rattle.scl_key.specs.declared.part.Ask.TheVariants as asks
-use Rattle.scl_key.specs.Given.{shows}
+use Rattle.scl_key.specs.Known.{shows}
 use Rattle.scl_key.specs.Parts.{Part, is, output, directory, compiler, plan, asked, run, run_else, pch, sources, times, fields, key_entries}
-use Rattle.scl_key.specs.Told.{RunWords, built, given, hazardous, key_record, run_words_fields, yes_or_no, told_entry, told_entries, told}
+use Rattle.scl_key.specs.Told.{RunWords, built, given, hazardous, flat_pairs, key_record, record_told, run_words_fields, yes_or_no, told_entry, told_entries, told, told_by}
 use Rattle.scl_key.specs.Laws.{part_back, key_in, KeysReadBack, with_shown_of, ran_with, AreOne, KeysDecideCommands}
 
 -- ---- rows are read back
@@ -84,7 +84,7 @@ facts-entry : (rows : List (List (List ℕ))) → facts_in (map is rows) ≡ row
 facts-entry [] = refl
 facts-entry (row ∷ rows) = ap (λ rs. row ∷ rs) (facts-entry rows)
 
-facts-entries : (es : List Entry) → facts_in (told_entries es) ≡ rows_of es
+pub facts-entries : (es : List Entry) → facts_in (told_entries es) ≡ rows_of es
 unfolding told_entry
 facts-entries [] = refl
 facts-entries (e ∷ es) =
@@ -120,14 +120,28 @@ words_told rows = behind_first (head_of (tail_of (tail_of (tail_of rows))))
 abbrev environment_told : List (List (List ℕ)) → List (List ℕ)
 environment_told rows = behind_first (head_of (tail_of (tail_of (tail_of (tail_of rows)))))
 
-abbrev record_told : List (List (List ℕ)) → Parsed
-record_told rows = record_by (rests_at (tail_of (tail_of (tail_of (tail_of (tail_of rows))))))
+abbrev record_in : List (List (List ℕ)) → Parsed
+record_in rows = record_by (rests_at (tail_of (tail_of (tail_of (tail_of (tail_of rows))))))
 
-record-told : (g : Compiler → Lexicon) (c : Compiler) (e : List (List ℕ × List ℕ)) (r : RunWords) (p : Parsed) → record_told (facts_in (told (g c) c e r p)) ≡ key_record (g c) c p
-record-told g c e r p =
-    ap (λ rows. record_by (rests_at rows)) (facts-entries (record_entries (key_record (g c) c p)))
-    ∙ ap record_by (λ i name. rests-found (record_entries (key_record (g c) c p)) name i)
-    ∙ record-found (key_record (g c) c p)
+-- the facts beside the record
+abbrev pub first_rows : Compiler → List (List ℕ × List ℕ) → RunWords → Bool → List (List (List ℕ))
+first_rows c e r is_shown =
+    (codes "version" ∷ codes "1" ∷ [])
+    ∷ (codes "compiler" ∷ name_of c ∷ [])
+    ∷ (codes "shown" ∷ yes_or_no is_shown ∷ [])
+    ∷ (codes "run-words" ∷ run_words_fields r)
+    ∷ (codes "environment" ∷ flat_pairs e)
+    ∷ []
+
+-- the facts of a command line with this record
+abbrev pub rows_told : Compiler → List (List ℕ × List ℕ) → RunWords → Bool → Parsed → List (List (List ℕ))
+rows_told c e r is_shown p = first_rows c e r is_shown ++ rows_of (record_entries p)
+
+pub facts-told : (is_shown : Bool) (c : Compiler) (e : List (List ℕ × List ℕ)) (r : RunWords) (p : Parsed) → facts_in (told_by is_shown c e r p) ≡ rows_told c e r is_shown (record_told is_shown p)
+facts-told is_shown c e r p = ap (λ rows. first_rows c e r is_shown ++ rows) (facts-entries (record_entries (record_told is_shown p)))
+
+record-back : (p : Parsed) → record_by (rests_at (rows_of (record_entries p))) ≡ p
+record-back p = ap record_by (λ i name. rests-found (record_entries p) name i) ∙ record-found p
 
 -- ---- one command
 
@@ -152,6 +166,23 @@ is_yes text = bytes_eq text (codes "yes")
 said-back : (b : Bool) → is_yes (yes_or_no b) ≡ b
 said-back true = refl
 said-back false = refl
+
+-- two command lines of which the same is told
+pub record AreToldAlike (a b : Compiler) (e f : List (List ℕ × List ℕ)) (r s : RunWords) (x y : Bool) (p q : Parsed) : Type 0 where
+  pub compiler_is : a ≡ b
+  pub shows_is : x ≡ y
+  pub run_words_are : run_words_fields r ≡ run_words_fields s
+  pub environment_is : flat_pairs e ≡ flat_pairs f
+  pub record_is : p ≡ q
+
+pub rows-decide : (a b : Compiler) (e f : List (List ℕ × List ℕ)) (r s : RunWords) (x y : Bool) (p q : Parsed) → rows_told a e r x p ≡ rows_told b f s y q → AreToldAlike a b e f r s x y p q
+rows-decide a b e f r s x y p q h = record {
+  compiler_is = one-compiler a b (ap compiler_told h);
+  shows_is = sym (said-back x) ∙ ap (λ rows. is_yes (shown_told rows)) h ∙ said-back y;
+  run_words_are = ap words_told h;
+  environment_is = ap environment_told h;
+  record_is = sym (record-back p) ∙ ap record_in h ∙ record-back q;
+}
 
 -- the command of a record is that of what is stated of it, with the words of the preprocessor put back
 command-told : (g : Compiler → Lexicon) (c : Compiler) (p : Parsed) → command_by c (with_shown_of p (key_record (g c) c p)) ≡ command_by c p
@@ -189,20 +220,21 @@ same-ran r s a b e h = sym (ran-told r a) ∙ ap (λ fields. ran_told fields a) 
 
 pub facts-decide : (g : Compiler → Lexicon) (a b : Compiler) (e f : List (List ℕ × List ℕ)) (r s : RunWords) (p q : Parsed) → facts_in (told (g a) a e r p) ≡ facts_in (told (g b) b f s q) → AreOne g a b e f r s p q
 facts-decide g a b e f r s p q h =
-    let one : a ≡ b = one-compiler a b (ap compiler_told h) in
-    let same : key_record (g a) a p ≡ key_record (g a) a q = sym (record-told g a e r p) ∙ ap record_told h ∙ record-told g b f s q ∙ ap (λ c. key_record (g c) c q) (sym one) in
-    let shown : shows (g a) a p ≡ shows (g b) b q = sym (said-back (shows (g a) a p)) ∙ ap (λ rows. is_yes (shown_told rows)) h ∙ said-back (shows (g b) b q) in
+    let alike : AreToldAlike a b e f r s (shows (g a) a p) (shows (g b) b q) (key_record (g a) a p) (key_record (g b) b q) =
+    rows-decide a b e f r s (shows (g a) a p) (shows (g b) b q) (key_record (g a) a p) (key_record (g b) b q)
+    (sym (facts-told (shows (g a) a p) a e r p) ∙ h ∙ facts-told (shows (g b) b q) b f s q) in
+    let same : key_record (g a) a p ≡ key_record (g a) a q = alike.record_is ∙ ap (λ c. key_record (g c) c q) (sym alike.compiler_is) in
     record {
-      compiler_is = one;
-      environment_is = ap environment_told h;
-      run_words_are = ap words_told h;
+      compiler_is = alike.compiler_is;
+      environment_is = alike.environment_is;
+      run_words_are = alike.run_words_are;
       record_is = same;
       outputs_are = ap (λ r. r.outputs) same;
       hash_files_are = ap (λ r. r.extra_hash_files) same;
-      shows_is = shown;
+      shows_is = alike.shows_is;
       command_is = same-command g a p q same;
-      what_runs_is = same-ran r s (command_by a p) (command_by a (with_shown_of p q)) (ap words_told h) (same-command g a p q same);
-      words_are_unless_shown = λ n. words-unless (shows (g a) a p) (shows (g a) a q) p.preprocessor_args q.preprocessor_args n (ap (λ c. shows (g c) c q) one ∙ sym shown ∙ n) (ap (λ r. r.preprocessor_args) same);
+      what_runs_is = same-ran r s (command_by a p) (command_by a (with_shown_of p q)) alike.run_words_are (same-command g a p q same);
+      words_are_unless_shown = λ n. words-unless (shows (g a) a p) (shows (g b) b q) p.preprocessor_args q.preprocessor_args n (sym alike.shows_is ∙ n) (ap (λ r. r.preprocessor_args) alike.record_is);
     }
 
 pub keys-decide : KeysDecideCommands

@@ -6,12 +6,9 @@ use Rattle.scl_text.specs.Records.{Parsed}
 use Rattle.scl_description.specs.Rows.{Entry, entry, entry_rows, rows_of}
 use Rattle.scl_description.specs.Records.{first_field, record_entries}
 use Rattle.scl_description.specs.Takers.{Adds}
-use Rattle.scl_reader.specs.declared.compiler.Compiler.{Compiler}
-use Rattle.scl_catalogue.specs.Lookup.{Lexicon}
 use Rattle.scl_key.specs.declared.told.Facts.{Facts}
-use Rattle.scl_key.specs.Given.{shows}
 use Rattle.scl_key.specs.Parts.{Part, is}
-use Rattle.scl_key.specs.Told.{is_left_out, kept_rows, key_record, told_entry, told_entries}
+use Rattle.scl_key.specs.Told.{is_left_out, kept_rows, record_told, told_entry, told_entries}
 use Rattle.scl_key.specs.Views.{parts_of}
 
 -- parts came after others
@@ -67,13 +64,9 @@ entries_told [] = refl
 entries_told (e ∷ es) = map-append is (entry_rows e) (rows_of es) ∙ ap (λ (parts : List Part). map is (entry_rows e) ++ parts) (entries_told es)
 
 -- those of a record are the rows of the record that a key states
-pub record_kept : (l : Lexicon) (compiler : Compiler) (is_shown : Bool) (p : Parsed) → is_shown ≡ shows l compiler p → map is (kept_rows is_shown (rows_of (record_entries p))) ≡ told_entries (record_entries (key_record l compiler p))
-record_kept l compiler is_shown p h =
-    ap (λ (rows : List (List (List ℕ))). map is rows) (entries_kept is_shown (record_entries p) ∙ by is_shown ∙ ap (λ (b : Bool). rows_of (stated b)) h)
-    ∙ entries_told (record_entries (key_record l compiler p)) where
-      stated : Bool → List Entry
-      stated b = record_entries (record p { preprocessor_args = cond b [] p.preprocessor_args; extra_dist_files = []; too_hard_for_preprocessor_cache_mode = None })
-
-      by : (b : Bool) → rows_of (kept_entries b (record_entries p)) ≡ rows_of (stated b)
+pub record_kept : (is_shown : Bool) (p : Parsed) → map is (kept_rows is_shown (rows_of (record_entries p))) ≡ told_entries (record_entries (record_told is_shown p))
+record_kept is_shown p =
+    ap (λ (rows : List (List (List ℕ))). map is rows) (entries_kept is_shown (record_entries p) ∙ by is_shown) ∙ entries_told (record_entries (record_told is_shown p)) where
+      by : (b : Bool) → rows_of (kept_entries b (record_entries p)) ≡ rows_of (record_entries (record_told b p))
       by true = refl
       by false = refl

@@ -1,6 +1,6 @@
 -- Direct mode: what a cache needs to find a key without a run of the compiler.
-use Rattle.std.specs.Prelude.{ℕ, Bool, true, false, nat_eq, ◌&&◌, ◌||◌, not, List, [], ◌∷◌, ◌++◌, map, codes, Option, None, Some, unwrap_or, if◌then◌else◌}
-use Rattle.std.specs.List.{list_all, list_any, starts_with}
+use Rattle.std.specs.Prelude.{ℕ, Bool, true, false, nat_eq, ◌&&◌, ◌||◌, not, List, [], ◌∷◌, ◌++◌, map, codes, if◌then◌else◌}
+use Rattle.std.specs.List.{flat_map, list_all, list_any, starts_with}
 use Rattle.std.specs.Str.{bytes_eq}
 use Rattle.scl_gnu.specs.OutputFiles.{without_output_files}
 use Rattle.scl_text.specs.Languages.{needs_c_preprocessing}
@@ -9,11 +9,12 @@ use Rattle.scl_text.specs.declared.language.Language.{Language}
 use Rattle.scl_description.specs.Rows.{Entry, row_entry}
 use Rattle.scl_reader.specs.declared.compiler.Compiler.{Compiler}
 use Rattle.scl_catalogue.specs.Lookup.{Lexicon, running_of}
-use Rattle.scl_key.specs.declared.given.Brings.{Brings}
-use Rattle.scl_key.specs.declared.given.Brings.TheVariants.{Folder, Header, MacroFile, Other, Dependencies, Unknown}
-use Rattle.scl_key.specs.Effects.{Judged, is_plain, judged_in}
+use Rattle.scl_catalogue.specs.declared.entry.Brings.{Brings}
+use Rattle.scl_catalogue.specs.declared.entry.Brings.TheVariants.{Folder, Header, MacroFile, Other, Dependencies, Unknown}
+use Rattle.scl_key.specs.Effects.{Judged, is_plain}
 use Rattle.scl_key.specs.Families.{is_gnu}
-use Rattle.scl_key.specs.Given.{awaited_by, awaited_next, flags, given_by, given_in, headers, is_known, is_text, macro_files}
+use Rattle.scl_key.specs.Given.{Given, given_words}
+use Rattle.scl_key.specs.Known.{Known, all_known, headers, is_text, known_in, macro_files}
 use Rattle.scl_key.specs.Reads.{is_path}
 use Rattle.scl_key.specs.Runs.{hides_header, is_assembler, marked_runs}
 
@@ -61,12 +62,14 @@ abbrev pub names_sources : Language → Bool
 names_sources language = is_text language || (is_assembler language && needs_c_preprocessing language)
 
 -- the files that its markers name, and those that stand where it searches, are all that a run reads
-abbrev pub may_direct : Lexicon → Compiler → Parsed → Bool
-may_direct l compiler p =
+abbrev pub may_direct_by : Lexicon → Known → Compiler → Parsed → Bool
+may_direct_by l k compiler p =
     is_gnu compiler
     && (names_sources p.language
-    && (not (list_any (λ word. bytes_eq word hides_header) p.common_args)
-    && (list_all (λ g. is_known g.brings) (given_in p.preprocessor_args) && list_all (is_quiet l) (judged_in l p.common_args))))
+    && (not (list_any (λ word. bytes_eq word hides_header) p.common_args) && (all_known k && list_all (is_quiet l) k.common)))
+
+abbrev pub may_direct : Lexicon → Compiler → Parsed → Bool
+may_direct l compiler p = may_direct_by l (known_in l p) compiler p
 
 -- ---- what is searched
 
@@ -79,24 +82,17 @@ is_searched Other = true
 is_searched Dependencies = false
 is_searched Unknown = false
 
--- what a word brings in, or belongs to
-abbrev pub brought : Option Brings → List ℕ → Brings
-brought (Some brings) word = brings
-brought None word = unwrap_or (awaited_by flags word) (given_by word).brings
-
 -- the words of the preprocessor that say where a run searches
-abbrev pub search_words : (awaited : Option Brings) → List (List ℕ) → List (List ℕ)
-search_words awaited [] = []
-search_words awaited (word ∷ words) =
-    if is_searched (brought awaited word) then word ∷ search_words (awaited_next awaited word) words else search_words (awaited_next awaited word) words
+abbrev pub search_words : Given → List (List ℕ)
+search_words g = if is_searched g.brings then given_words g else []
 
 -- The record of a run that names the folders that it searches. It reads its input from standard input.
-abbrev pub search_record : Parsed → Parsed
-search_record p = record p {
+abbrev pub search_record : Known → Parsed → Parsed
+search_record k p = record p {
   input = codes "-";
   double_dash_input = false;
   dependency_args = [];
-  preprocessor_args = codes "-v" ∷ search_words None p.preprocessor_args;
+  preprocessor_args = codes "-v" ∷ flat_map search_words k.given;
   common_args = without_output_files p.common_args;
 }
 
@@ -137,16 +133,19 @@ unseen =
     ∷ codes "define[^!-~\n].*__has_include(_next)?[^!-~\n]*([!-')-~]|$)"
     ∷ []
 
-abbrev pub directs_if : Bool → Compiler → Parsed → List Direct
-directs_if may c p =
+abbrev pub directs_if : Bool → Known → Compiler → Parsed → List Direct
+directs_if may k c p =
     if may
     then map env direct_variables
-    ++ map search (marked_runs c (search_record p))
+    ++ map search (marked_runs c (search_record k p))
     ++ map first implied
-    ++ map first (headers p ++ macro_files p)
+    ++ map first (headers k ++ macro_files k)
     ++ named naming ∷ map refuse_if_read unseen
     else []
 
 -- what a cache needs in direct mode; nothing if the mode may not be used
+abbrev pub directs_by : Lexicon → Known → Compiler → Parsed → List Direct
+directs_by l k c p = directs_if (may_direct_by l k c p) k c p
+
 abbrev pub directs : Lexicon → Compiler → Parsed → List Direct
-directs l c p = directs_if (may_direct l c p) c p
+directs l c p = directs_by l (known_in l p) c p

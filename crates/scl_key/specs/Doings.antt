@@ -10,6 +10,7 @@ use Rattle.scl_text.specs.Records.{Parsed, artifact}
 use Rattle.scl_key.specs.declared.no_key.Reason.TheVariants as reasons
 use Rattle.scl_key.specs.declared.part.Ask.TheVariants as asks
 use Rattle.scl_key.specs.Keys.{Key, Keeping, under, not_kept, NoKey, is_no_file, keeping_by, made_paths, no_key, view_of}
+use Rattle.scl_key.specs.Made.{made}
 use Rattle.scl_key.specs.Parts.{Part, asked, output}
 
 -- what the parts of each key answer: the name of the directory, and the processor, which a plan spells out
@@ -54,7 +55,7 @@ barred effects = map (λ e. no_key reasons.Effect e.name) (filter bars effects)
 
 -- a key, and what effects add to it
 abbrev pub key_with : Parsed → List Effect → Key → Key
-key_with p effects key = record key { parts = key.parts ++ parts_told (view_of (made_paths p)) effects }
+key_with p effects key = record key { parts = key.parts ++ parts_told (view_of (made_paths (made p))) effects }
 
 -- what is said of a command line whose compiler has these effects
 abbrev pub with_effects : Parsed → List Effect → Keeping → Keeping

@@ -4,7 +4,7 @@ use Rattle.std.specs.List.{flat_map, list_all, list_any, starts_with}
 use Rattle.std.specs.Option.{option_to_list}
 use Rattle.std.specs.Str.{bytes_eq}
 use Rattle.scl_files.specs.Views.{Viewed, empty_view, is_among}
-use Rattle.scl_text.specs.Records.{Parsed}
+use Rattle.scl_text.specs.Records.{Artifact, Parsed}
 use Rattle.scl_description.specs.Rows.{Entry, row_entry}
 use Rattle.scl_reader.specs.declared.compiler.Compiler.{Compiler}
 use Rattle.scl_catalogue.specs.Lookup.{Lexicon}
@@ -14,15 +14,15 @@ use Rattle.scl_key.specs.declared.no_key.Reason.{Reason}
 use Rattle.scl_key.specs.declared.no_key.Reason.TheVariants.{WritesUnnamed, TextHides, OutputIsNoFile, OnePathTwice, Hazard, Effect as EffectBars}
 use Rattle.scl_key.specs.declared.part.Ask.{Ask}
 use Rattle.scl_key.specs.declared.part.Ask.TheVariants as asks
-use Rattle.scl_key.specs.Directs.{Direct, directs}
-use Rattle.scl_key.specs.Effects.{Judged, assembler_words, behind, is_plain, judged_in, suffixes, writes_by_assembler}
+use Rattle.scl_key.specs.Directs.{Direct, directs_by}
+use Rattle.scl_key.specs.Effects.{Judged, assembler_words, behind, is_plain, suffixes, writes_by_assembler}
 use Rattle.scl_key.specs.Families.{folder_variables, is_clang, is_gcc, notes_by_runs, unset_variables, variables}
-use Rattle.scl_key.specs.Given.{folders, has_macros, headers, shows}
-use Rattle.scl_key.specs.Made.{dependency_files, handed_file, made}
+use Rattle.scl_key.specs.Known.{Known, folders, has_macros, headers, known_in, shows_by}
+use Rattle.scl_key.specs.Made.{dependency_files, handed_file}
 use Rattle.scl_key.specs.Parts.{Part, asked, directory, compiler, output, pch, sources, times}
 use Rattle.scl_key.specs.Reads.{files_perhaps}
 use Rattle.scl_key.specs.Runs.{is_assembler, is_header, plans, run_parts}
-use Rattle.scl_key.specs.Told.{RunWords, given, built, hazardous, told}
+use Rattle.scl_key.specs.Told.{RunWords, given, built, hazardous, told_by}
 
 -- ---- what is asked
 
@@ -41,20 +41,20 @@ abbrev pub named_each : List ℕ → List (List ℕ) → List (List ℕ)
 named_each what names = flat_map (λ name. what ∷ name ∷ []) names
 
 -- where Gcc searches what it may read in the place of the first header
-abbrev pub searched : Parsed → List (List ℕ)
-searched p =
-    named_each (codes "header") (headers p)
+abbrev pub searched : Known → Parsed → List (List ℕ)
+searched k p =
+    named_each (codes "header") (headers k)
     ++ named_each (codes "beside") (p.input ∷ [])
-    ++ named_each (codes "folder") (folders p)
+    ++ named_each (codes "folder") (folders k)
     ++ named_each (codes "variable") folder_variables
 
-abbrev pub precompiled_parts : Compiler → Parsed → List Part
-precompiled_parts c p =
-    if is_gcc c then pch (searched p) ∷ [] else []
+abbrev pub precompiled_parts : Known → Compiler → Parsed → List Part
+precompiled_parts k c p =
+    if is_gcc c then pch (searched k p) ∷ [] else []
 
 -- the outcome has nothing of the sources that is missing from the text of a run
-abbrev pub text_is_enough : Lexicon → Compiler → Parsed → Bool
-text_is_enough l c p = shows l c p && list_all (λ j. is_plain j.doing) (judged_in l p.common_args)
+abbrev pub text_is_enough : Known → Compiler → Parsed → Bool
+text_is_enough k c p = shows_by k c p.language && list_all (λ j. is_plain j.doing) k.common
 
 -- what in a text says that a source has more than the text: its columns, names, lines, or whether a message is an error
 abbrev pub telling : List ℕ
@@ -67,8 +67,8 @@ clang_telling = codes "__builtin_(COLUMN|LINE|FILE|source_location|dump_struct)|
 abbrev pub telling_of : Compiler → List ℕ
 telling_of c = if is_clang c then clang_telling else telling
 
-abbrev pub source_parts : Lexicon → Compiler → Parsed → List Part
-source_parts l c p = if text_is_enough l c p then asked asks.SourcesIfShown (telling_of c) ∷ [] else sources ∷ []
+abbrev pub source_parts : Known → Compiler → Parsed → List Part
+source_parts k c p = if text_is_enough k c p then asked asks.SourcesIfShown (telling_of c) ∷ [] else sources ∷ []
 
 abbrev pub stamps_times : Compiler → Parsed → Bool
 stamps_times c p = is_clang c && (is_header p.language && not (list_any (λ word. bytes_eq word (codes "-fno-pch-timestamp")) p.common_args))
@@ -84,26 +84,29 @@ abbrev pub refusals : Parsed → List Part
 refusals p = asked asks.RefuseIfShown (if is_assembler p.language then assembler_reading else reading) ∷ []
 
 -- what is asked of variables and files
-abbrev pub file_parts : Lexicon → Compiler → RunWords → Parsed → List Part
-file_parts l c words p =
+abbrev pub file_parts : Known → Compiler → RunWords → Parsed → List Part
+file_parts k c words p =
     asked_each asks.Env (variables c)
     ++ asked_each asks.Unset (unset_variables c)
     ++ asked_each asks.File p.extra_hash_files
     ++ asked_each asks.File (response_files words)
-    ++ asked_each asks.Maybe (files_perhaps l c p)
+    ++ asked_each asks.Maybe (files_perhaps k c p)
 
 -- what is asked of texts: the runs, and after them what asks of what these write
-abbrev pub text_parts : Lexicon → Compiler → Parsed → List Part
-text_parts l c p = run_parts (has_macros l p) c p ++ precompiled_parts c p ++ source_parts l c p ++ (if stamps_times c p then times ∷ [] else []) ++ refusals p
+abbrev pub text_parts : Known → Compiler → Parsed → List Part
+text_parts k c p = run_parts (has_macros k) c p ++ precompiled_parts k c p ++ source_parts k c p ++ (if stamps_times c p then times ∷ [] else []) ++ refusals p
 
 -- the parts that ask, in order
-abbrev pub asked_parts : Lexicon → Compiler → RunWords → Parsed → List Part
-asked_parts l c words p = (directory ∷ compiler ∷ []) ++ plans c p ++ file_parts l c words p ++ asked_each asks.Regular (p.input ∷ headers p) ++ text_parts l c p
+abbrev pub asked_parts : Known → Compiler → RunWords → Parsed → List Part
+asked_parts k c words p = (directory ∷ compiler ∷ []) ++ plans c p ++ file_parts k c words p ++ asked_each asks.Regular (p.input ∷ headers k) ++ text_parts k c p
 
 -- ---- all parts
 
+abbrev pub key_by : Known → Compiler → (environment : List (List ℕ × List ℕ)) → RunWords → Parsed → List Part
+key_by k c environment words p = told_by (shows_by k c p.language) c environment words p ++ map output k.made ++ asked_parts k c words p
+
 abbrev pub key_of : Lexicon → Compiler → (environment : List (List ℕ × List ℕ)) → RunWords → Parsed → List Part
-key_of l c environment words p = told l c environment words p ++ map output (made p) ++ asked_parts l c words p
+key_of l c environment words p = key_by (known_in l p) c environment words p
 
 -- ---- where no key can be right
 
@@ -161,8 +164,8 @@ unnamed c p = unnamed_by p.preprocessor_args ++ unnamed_by p.common_args ++ unna
 abbrev pub is_no_file : List ℕ → Bool
 is_no_file path = bytes_eq path (codes "-") || (starts_with nat_eq path (codes "/dev/") || starts_with nat_eq path (codes "/proc/"))
 
-abbrev pub made_paths : Parsed → List (List ℕ)
-made_paths p = map (λ output. output.path) (made p)
+abbrev pub made_paths : List Artifact → List (List ℕ)
+made_paths outputs = map (λ output. output.path) outputs
 
 -- what a view has in which these paths exist
 abbrev pub view_of : List (List ℕ) → Viewed
@@ -179,20 +182,16 @@ hazards (given words files) = []
 hazards (hazardous hazard) = no_key Hazard hazard ∷ []
 
 -- what the words of a record do
-abbrev pub no_keys_by_words : Lexicon → Parsed → List NoKey
-no_keys_by_words l p =
-    flat_map no_key_by (judged_in l p.preprocessor_args)
-    ++ flat_map no_key_by (judged_in l p.common_args)
-    ++ flat_map no_key_by (judged_in l p.unhashed_args)
-    ++ flat_map no_key_by (judged_in l p.dependency_args)
+abbrev pub no_keys_by_words : Known → List NoKey
+no_keys_by_words k = flat_map no_key_by k.preprocessor ++ flat_map no_key_by k.common ++ flat_map no_key_by k.unhashed ++ flat_map no_key_by k.dependency
 
-abbrev pub no_keys : Lexicon → Compiler → RunWords → Parsed → List NoKey
-no_keys l c words p =
+abbrev pub no_keys : Known → Compiler → RunWords → Parsed → List NoKey
+no_keys k c words p =
     hazards words
-    ++ no_keys_by_words l p
+    ++ no_keys_by_words k
     ++ map (no_key WritesUnnamed) (unnamed c p)
-    ++ map (no_key OutputIsNoFile) (filter is_no_file (made_paths p))
-    ++ map (no_key OnePathTwice) (repeated (made_paths p))
+    ++ map (no_key OutputIsNoFile) (filter is_no_file (made_paths k.made))
+    ++ map (no_key OnePathTwice) (repeated (made_paths k.made))
 
 -- ---- what is said of a command line
 
@@ -203,8 +202,11 @@ pub record Key : Type 0 where
   pub parts : List Part
   pub direct : List Direct
 
+abbrev pub whole_key_by : Lexicon → Known → Compiler → (environment : List (List ℕ × List ℕ)) → RunWords → Parsed → Key
+whole_key_by l k c environment words p = record { is_shown = shows_by k c p.language; parts = key_by k c environment words p; direct = directs_by l k c p }
+
 abbrev pub whole_key : Lexicon → Compiler → (environment : List (List ℕ × List ℕ)) → RunWords → Parsed → Key
-whole_key l c environment words p = record { is_shown = shows l c p; parts = key_of l c environment words p; direct = directs l c p }
+whole_key l c environment words p = whole_key_by l (known_in l p) c environment words p
 
 pub data Keeping : Type 0 where
   under : (key : Key) → Keeping
@@ -216,7 +218,7 @@ keeping_by (why ∷ others) key = not_kept (why ∷ others)
 
 -- its key, or why there is none
 abbrev pub keeping_of : Lexicon → Compiler → (environment : List (List ℕ × List ℕ)) → RunWords → Parsed → Keeping
-keeping_of l c environment words p = keeping_by (no_keys l c words p) (whole_key l c environment words p)
+keeping_of l c environment words p = keeping_by (no_keys (known_in l p) c words p) (whole_key l c environment words p)
 
 -- ---- rows
 

@@ -12,7 +12,7 @@ use Rattle.scl_catalogue.specs.Lookup.{Lexicon}
 use Rattle.scl_key.specs.declared.part.Ask.{Ask}
 use Rattle.scl_key.specs.declared.part.Ask.TheVariants as asks
 use Rattle.scl_key.specs.Directs.{Direct, env, search, first, named, refuse_if_read, direct_fields, directs, may_direct}
-use Rattle.scl_key.specs.Given.{shows}
+use Rattle.scl_key.specs.Known.{shows}
 use Rattle.scl_key.specs.Keys.{key_of}
 use Rattle.scl_key.specs.Parts.{Part, is, output, directory, compiler, plan, asked, run, run_else, pch, sources, times, ask_name, fields, hashed, is_asked, key_entries}
 use Rattle.scl_key.specs.Told.{RunWords, built, given, hazardous, flat_pairs, key_record, run_words_fields, told}

@@ -1,8 +1,7 @@
 pub mod Effects
-pub mod JudgedViews
 pub mod Families
 pub mod Given
-pub mod GivenViews
+pub mod Known
 pub mod Parts
 pub mod Told
 pub mod Made
@@ -12,4 +11,5 @@ pub mod Directs
 pub mod Doings
 pub mod Keys
 pub mod Views
+pub mod KnownViews
 pub mod Laws

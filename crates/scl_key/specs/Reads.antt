@@ -6,12 +6,11 @@ use Rattle.scl_files.specs.Paths.{with_extension}
 use Rattle.scl_text.specs.Commands.{object_of}
 use Rattle.scl_text.specs.Records.{Parsed}
 use Rattle.scl_reader.specs.declared.compiler.Compiler.{Compiler}
-use Rattle.scl_catalogue.specs.Lookup.{Lexicon}
 use Rattle.scl_catalogue.specs.declared.entry.Doing.{Doing}
 use Rattle.scl_catalogue.specs.declared.entry.Doing.TheVariants as doings
-use Rattle.scl_key.specs.Effects.{Judged, is_comma, is_plain, judged_in, pieces, until}
+use Rattle.scl_key.specs.Effects.{Judged, is_comma, is_plain, pieces, until}
 use Rattle.scl_key.specs.Families.{is_clang}
-use Rattle.scl_key.specs.Given.{headers, macro_files}
+use Rattle.scl_key.specs.Known.{Known, headers, macro_files}
 
 -- a text, and what stands after each of its `=`: to its end after the first four, and up to the next after the others
 abbrev pub with_values : List ℕ → List (List ℕ)
@@ -46,17 +45,16 @@ profile_by object doings.TextHides = []
 profile_by object doings.ReadsCounts = map (λ path. with_extension path (codes "gcda")) (option_to_list object)
 profile_by object doings.ReadsSamples = codes "fbdata.afdo" ∷ []
 
-abbrev pub profiles : Lexicon → Parsed → List (List ℕ)
-profiles l p = flat_map (λ j. profile_by (object_of p) j.doing) (judged_in l p.common_args)
+abbrev pub profiles : Known → Parsed → List (List ℕ)
+profiles k p = flat_map (λ j. profile_by (object_of p) j.doing) k.common
 
 -- what clang may read in the place of a header that is included first
 abbrev pub precompiled : List ℕ → List (List ℕ)
 precompiled header = (header ++ codes ".pch") ∷ (header ++ codes ".gch") ∷ []
 
-abbrev pub precompiled_headers : Compiler → Parsed → List (List ℕ)
-precompiled_headers compiler p = if is_clang compiler then flat_map precompiled (headers p) else []
+abbrev pub precompiled_headers : Compiler → Known → List (List ℕ)
+precompiled_headers compiler k = if is_clang compiler then flat_map precompiled (headers k) else []
 
 -- all files that may be read, and need not be there
-abbrev pub files_perhaps : Lexicon → Compiler → Parsed → List (List ℕ)
-files_perhaps l compiler p =
-    flat_map paths_by (judged_in l p.common_args) ++ flat_map paths_by (judged_in l p.unhashed_args) ++ macro_files p ++ profiles l p ++ precompiled_headers compiler p
+abbrev pub files_perhaps : Known → Compiler → Parsed → List (List ℕ)
+files_perhaps k compiler p = flat_map paths_by k.common ++ flat_map paths_by k.unhashed ++ macro_files k ++ profiles k p ++ precompiled_headers compiler k

@@ -8,7 +8,7 @@ use Rattle.scl_description.specs.Records.{first_field, record_entries}
 use Rattle.scl_reader.specs.declared.compiler.Compiler.{Compiler}
 use Rattle.scl_reader.specs.Compilers.{name_of}
 use Rattle.scl_catalogue.specs.Lookup.{Lexicon}
-use Rattle.scl_key.specs.Given.{shows}
+use Rattle.scl_key.specs.Known.{shows}
 use Rattle.scl_key.specs.Parts.{Part, is}
 
 -- which words a cache runs at a miss
@@ -21,12 +21,15 @@ pub data RunWords : Type 0 where
   hazardous : (hazard : List ℕ) → RunWords
 
 -- the record, less what runs show, and what no command takes
-abbrev pub key_record : Lexicon → Compiler → Parsed → Parsed
-key_record l compiler p = record p {
-  preprocessor_args = if shows l compiler p then [] else p.preprocessor_args;
+abbrev pub record_told : (is_shown : Bool) → Parsed → Parsed
+record_told is_shown p = record p {
+  preprocessor_args = if is_shown then [] else p.preprocessor_args;
   extra_dist_files = [];
   too_hard_for_preprocessor_cache_mode = None;
 }
+
+abbrev pub key_record : Lexicon → Compiler → Parsed → Parsed
+key_record l compiler p = record_told (shows l compiler p) p
 
 abbrev pub yes_or_no : Bool → List ℕ
 yes_or_no true = codes "yes"
@@ -52,9 +55,6 @@ facts_shown compiler environment words is_shown =
     ∷ is (codes "environment" ∷ flat_pairs environment)
     ∷ []
 
-abbrev pub facts : Lexicon → Compiler → (environment : List (List ℕ × List ℕ)) → RunWords → Parsed → List Part
-facts l compiler environment words p = facts_shown compiler environment words (shows l compiler p)
-
 -- the names of rows that a key leaves out
 abbrev pub is_left_out : Bool → List ℕ → Bool
 is_left_out is_shown name = bytes_eq name (codes "dist") || (bytes_eq name (codes "too-hard") || (is_shown && bytes_eq name (codes "preprocessor")))
@@ -71,5 +71,8 @@ abbrev pub told_entries : List Entry → List Part
 told_entries entries = flat_map told_entry entries
 
 -- the parts that are facts
+abbrev pub told_by : (is_shown : Bool) → Compiler → (environment : List (List ℕ × List ℕ)) → RunWords → Parsed → List Part
+told_by is_shown compiler environment words p = facts_shown compiler environment words is_shown ++ told_entries (record_entries (record_told is_shown p))
+
 abbrev pub told : Lexicon → Compiler → (environment : List (List ℕ × List ℕ)) → RunWords → Parsed → List Part
-told l compiler environment words p = facts l compiler environment words p ++ told_entries (record_entries (key_record l compiler p))
+told l compiler environment words p = told_by (shows l compiler p) compiler environment words p

@@ -1,6 +1,6 @@
 //! Direct mode: what a cache needs to find a key without a run of the compiler.
-ghost use Rattle.std.specs.Prelude.{◌≡◌, ◌++◌, ◌∷◌, map, true, None, IfOk, OnOk};
-ghost use Rattle.std.specs.List.{list_all};
+ghost use Rattle.std.specs.Prelude.{◌≡◌, ◌++◌, ◌∷◌, map, true, IfOk, OnOk};
+ghost use Rattle.std.specs.List.{flat_map, list_all};
 ghost use Rattle.scl_values.specs.Words.{words_of};
 ghost use Rattle.scl_text.specs.Records.{parsed_of};
 ghost use Rattle.scl_text.specs.Runs.{runs_of};
@@ -8,31 +8,26 @@ ghost use Rattle.scl_description.specs.Rows.{entry_rows};
 ghost use Rattle.scl_description.specs.Rows.{rows_of as rows_told};
 ghost use Rattle.scl_description.specs.Takers.{Adds};
 ghost use Rattle.scl_catalogue.specs.Views.{lexicon_of};
-ghost use Rattle.scl_key.specs.Directs.{brought, direct_entries, direct_entry, direct_variables, directs, directs_if, first, implied, is_quiet, is_searched, is_value, may_direct, named, names_sources, naming, refuse_if_read, search, search_record, search_words, unseen};
+ghost use Rattle.scl_key.specs.Directs.{direct_entries, direct_entry, direct_variables, directs_by, directs_if, first, implied, is_quiet, is_searched, is_value, may_direct_by, named, names_sources, naming, refuse_if_read, search, search_record, search_words, unseen};
 ghost use Rattle.scl_key.specs.Directs.{env as env_asked};
-ghost use Rattle.scl_key.specs.Effects.{judged_in};
-ghost use Rattle.scl_key.specs.Given.{given_in, values_among};
-ghost use Rattle.scl_key.specs.GivenViews.{all_given};
-ghost use Rattle.scl_key.specs.JudgedViews.{all_judged, judged_of};
+ghost use Rattle.scl_key.specs.Known.{headers, macro_files};
+ghost use Rattle.scl_key.specs.KnownViews.{all_given, all_judged, given_of, judged_of, known_of};
 ghost use Rattle.scl_key.specs.Runs.{marked_runs};
 ghost use Rattle.scl_key.specs.Views.{direct_of, directs_of};
-ghost use Rattle.scl_key.specs.declared.given.Brings.TheVariants as Brings;
 
 use crate::effect::{Judged, is_plain};
 use crate::family::is_gnu;
-use crate::given::{
-    Brings, Given, Known, all_flags, all_known, awaited_by, awaited_next, given_by, is_text,
-    values_among,
-};
+use crate::given::{Given, values_among};
+use crate::known::{Known, all_known, is_text};
 use crate::reads::is_path;
 use crate::runs::{HIDES_HEADER, is_among, is_assembler, marked_runs};
 use crate::told::Line;
-use scl_catalogue::Lexicon;
+use scl_catalogue::{Brings, Lexicon};
 use scl_description::{TakesRows, tell_row};
 use scl_gnu::gcc::without_output_files;
 use scl_reader::Compiler;
 use scl_text::Mem;
-use scl_text::command::{copy_words, push_word};
+use scl_text::command::push_word;
 use scl_text::language::Language;
 use scl_text::records::ParsedArguments;
 use std::alloc::Global;
@@ -64,7 +59,7 @@ static VARIABLES: [&'static str; 6] = [
 ];
 
 /// Headers that no word and no source names: gcc includes them before all others.
-static IMPLIED: [&'static str; 1] = ["stdc-predef.h"];
+static IMPLIED: [&'static [u8]; 1] = [b"stdc-predef.h"];
 
 /// What names a file in a source.
 const NAMING: &str = "(include|import)(_next)?[^!-~\n]*\\(?[^!-~\n]*(<[^>\n]*>|\"[^\"\n]*\")";
@@ -90,7 +85,7 @@ fn variables() -> &'static [&'static str]
     &VARIABLES
 }
 
-fn implied() -> &'static [&'static str]
+fn implied() -> &'static [&'static [u8]]
     ensures { map (λ header. header.now) result.now ≡ implied }
 {
     &IMPLIED
@@ -138,9 +133,7 @@ fn names_sources(language: Language) -> bool
 
 /// Whether the files that its markers name, and those that stand where it searches, are all that a run reads.
 fn may_direct(line: &Line<'_, '_>, known: &Known<'_>) -> bool
-    requires common { all_judged known.now.common.items ≡ judged_in (lexicon_of line.now.lexicon.now) (parsed_of line.now.parsed.now).common_args }
-    requires given { all_given known.now.given.items ≡ given_in (parsed_of line.now.parsed.now).preprocessor_args }
-    ensures { result ≡ may_direct (lexicon_of line.now.lexicon.now) line.now.compiler (parsed_of line.now.parsed.now) }
+    ensures { result ≡ may_direct_by (lexicon_of line.now.lexicon.now) (known_of known.now) line.now.compiler (parsed_of line.now.parsed.now) }
 {
     is_gnu(line.compiler)
         && names_sources(line.parsed.language)
@@ -151,52 +144,49 @@ fn may_direct(line: &Line<'_, '_>, known: &Known<'_>) -> bool
 
 // ---- what is searched
 
-impl Brings {
-    /// Whether the value says where a run searches.
-    fn is_searched(self) -> bool
-        ensures { result ≡ is_searched self }
-    {
-        match self {
-            Brings::Folder | Brings::Other => true,
-            Brings::Header | Brings::MacroFile | Brings::Dependencies | Brings::Unknown => false,
-        }
+/// Whether the value says where a run searches.
+fn is_searched(brings: Brings) -> bool
+    ensures { result ≡ is_searched brings }
+{
+    match brings {
+        Brings::Folder | Brings::Other => true,
+        Brings::Header | Brings::MacroFile | Brings::Dependencies | Brings::Unknown => false,
     }
 }
 
-/// What a word brings in, or belongs to.
-fn brought(awaited: Option<Brings>, word: &[u8]) -> Brings
-    ensures { result ≡ brought awaited word.now }
+/// Appends a word and the flag before it, if they say where a run searches.
+fn push_search_words(alloc: Global, found: &mut Vec<Vec<u8>>, given: &Given<'_>) -> Mem<()>
+    ensures { OnOk result (words_of found.new.items ≡ words_of found.old.items ++ search_words (given_of given.now)) }
 {
-    match awaited {
-        Some(brings) => brings,
-        None => match awaited_by(all_flags(), word) {
-            Some(brings) => brings,
-            None => given_by(word).brings,
-        },
+    if !is_searched(given.brings) {
+        return Ok(());
+    }
+    match given.flag {
+        Some(flag) => {
+            push_word(alloc, found, flag)?;
+            push_word(alloc, found, given.word)
+        }
+        None => push_word(alloc, found, given.word),
     }
 }
 
 /// Appends the words of the preprocessor that say where a run searches.
-fn push_search_words(alloc: Global, found: &mut Vec<Vec<u8>>, words: &[Vec<u8>]) -> Mem<()>
-    ensures { OnOk result (words_of found.new.items ≡ words_of found.old.items ++ search_words None (words_of words.now)) }
+fn push_all_search_words(alloc: Global, found: &mut Vec<Vec<u8>>, given: &[Given<'_>]) -> Mem<()>
+    ensures { OnOk result (words_of found.new.items ≡ words_of found.old.items ++ flat_map search_words (all_given given.now)) }
 {
-    let mut awaited = None;
-    for word in words {
-        if brought(awaited, word).is_searched() {
-            push_word(alloc, found, word)?;
-        }
-        awaited = awaited_next(awaited, word);
+    for one in given {
+        push_search_words(alloc, found, one)?;
     }
     Ok(())
 }
 
 /// The record of a run that names the folders that it searches.
-fn search_record(alloc: Global, parsed: &ParsedArguments) -> Mem<ParsedArguments>
-    ensures { IfOk result (λ searching. parsed_of searching ≡ search_record (parsed_of parsed.now)) }
+fn search_record(alloc: Global, known: &Known<'_>, parsed: &ParsedArguments) -> Mem<ParsedArguments>
+    ensures { IfOk result (λ searching. parsed_of searching ≡ search_record (known_of known.now) (parsed_of parsed.now)) }
 {
     let mut words = Vec::new(alloc);
     push_word(alloc, &mut words, b"-v")?;
-    push_search_words(alloc, &mut words, &parsed.preprocessor_args)?;
+    push_all_search_words(alloc, &mut words, &known.given)?;
     let mut searching = parsed.copy(alloc)?;
     searching.input = Vec::from_slice(alloc, b"-")?;
     searching.double_dash_input = false;
@@ -207,10 +197,15 @@ fn search_record(alloc: Global, parsed: &ParsedArguments) -> Mem<ParsedArguments
 }
 
 /// The words of the runs that name the folders that they search.
-fn searches(alloc: Global, compiler: Compiler, parsed: &ParsedArguments) -> Mem<Vec<Vec<Vec<u8>>>>
-    ensures { IfOk result (λ runs. runs_of runs.items ≡ marked_runs compiler (search_record (parsed_of parsed.now))) }
+fn searches(
+    alloc: Global,
+    compiler: Compiler,
+    known: &Known<'_>,
+    parsed: &ParsedArguments,
+) -> Mem<Vec<Vec<Vec<u8>>>>
+    ensures { IfOk result (λ runs. runs_of runs.items ≡ marked_runs compiler (search_record (known_of known.now) (parsed_of parsed.now))) }
 {
-    let searching = search_record(alloc, parsed)?;
+    let searching = search_record(alloc, known, parsed)?;
     marked_runs(alloc, compiler, &searching)
 }
 
@@ -227,31 +222,21 @@ fn push_variables(rows: &mut Vec<Direct>, names: &[&'static str]) -> Mem<()>
 }
 
 /// Appends what names folders.
-fn push_searches(alloc: Global, rows: &mut Vec<Direct>, runs: &[Vec<Vec<u8>>]) -> Mem<()>
-    ensures { OnOk result (directs_of rows.new.items ≡ directs_of rows.old.items ++ map search (runs_of runs.now)) }
+fn push_searches(rows: &mut Vec<Direct>, runs: Vec<Vec<Vec<u8>>>) -> Mem<()>
+    ensures { OnOk result (directs_of rows.new.items ≡ directs_of rows.old.items ++ map search (runs_of runs.items)) }
 {
     for one in runs {
-        rows.push(Direct::Search(copy_words(alloc, one)?))?;
+        rows.push(Direct::Search(one))?;
     }
     Ok(())
 }
 
-/// Appends headers that words name.
+/// Appends headers that stand before all others.
 fn push_first(alloc: Global, rows: &mut Vec<Direct>, headers: &[&[u8]]) -> Mem<()>
     ensures { OnOk result (directs_of rows.new.items ≡ directs_of rows.old.items ++ map first (map (λ header. header.now) headers.now)) }
 {
     for header in headers {
         rows.push(Direct::First(Vec::from_slice(alloc, header)?))?;
-    }
-    Ok(())
-}
-
-/// Appends headers that no word names.
-fn push_implied(alloc: Global, rows: &mut Vec<Direct>, headers: &[&'static str]) -> Mem<()>
-    ensures { OnOk result (directs_of rows.new.items ≡ directs_of rows.old.items ++ map first (map (λ header. header.now) headers.now)) }
-{
-    for header in headers {
-        rows.push(Direct::First(Vec::from_slice(alloc, header.as_bytes())?))?;
     }
     Ok(())
 }
@@ -267,12 +252,12 @@ fn push_unseen(rows: &mut Vec<Direct>, patterns: &[&'static str]) -> Mem<()>
 }
 
 /// Appends the headers, and the files of macros, that words name.
-fn push_all_first(alloc: Global, rows: &mut Vec<Direct>, given: &[Given<'_>]) -> Mem<()>
-    ensures { OnOk result (directs_of rows.new.items ≡ directs_of rows.old.items ++ map first (values_among Brings.Header (all_given given.now) ++ values_among Brings.MacroFile (all_given given.now))) }
+fn push_all_first(alloc: Global, rows: &mut Vec<Direct>, known: &Known<'_>) -> Mem<()>
+    ensures { OnOk result (directs_of rows.new.items ≡ directs_of rows.old.items ++ map first (headers (known_of known.now) ++ macro_files (known_of known.now))) }
 {
-    let headers = values_among(alloc, Brings::Header, given)?;
+    let headers = values_among(alloc, Brings::Header, &known.given)?;
     push_first(alloc, rows, &headers)?;
-    let files = values_among(alloc, Brings::MacroFile, given)?;
+    let files = values_among(alloc, Brings::MacroFile, &known.given)?;
     push_first(alloc, rows, &files)
 }
 
@@ -288,30 +273,27 @@ fn push_patterns(rows: &mut Vec<Direct>) -> Mem<()>
 fn all_directs(
     alloc: Global,
     compiler: Compiler,
-    given: &[Given<'_>],
+    known: &Known<'_>,
     parsed: &ParsedArguments,
 ) -> Mem<Vec<Direct>>
-    requires given { all_given given.now ≡ given_in (parsed_of parsed.now).preprocessor_args }
-    ensures { IfOk result (λ rows. directs_of rows.items ≡ directs_if true compiler (parsed_of parsed.now)) }
+    ensures { IfOk result (λ rows. directs_of rows.items ≡ directs_if true (known_of known.now) compiler (parsed_of parsed.now)) }
 {
     let mut rows = Vec::new(alloc);
     push_variables(&mut rows, variables())?;
-    let runs = searches(alloc, compiler, parsed)?;
-    push_searches(alloc, &mut rows, &runs)?;
-    push_implied(alloc, &mut rows, implied())?;
-    push_all_first(alloc, &mut rows, given)?;
+    let runs = searches(alloc, compiler, known, parsed)?;
+    push_searches(&mut rows, runs)?;
+    push_first(alloc, &mut rows, implied())?;
+    push_all_first(alloc, &mut rows, known)?;
     push_patterns(&mut rows)?;
     Ok(rows)
 }
 
 /// What a cache needs in direct mode; nothing if the mode may not be used.
 pub(crate) fn directs(alloc: Global, line: &Line<'_, '_>, known: &Known<'_>) -> Mem<Vec<Direct>>
-    requires common { all_judged known.now.common.items ≡ judged_in (lexicon_of line.now.lexicon.now) (parsed_of line.now.parsed.now).common_args }
-    requires given { all_given known.now.given.items ≡ given_in (parsed_of line.now.parsed.now).preprocessor_args }
-    ensures { IfOk result (λ rows. directs_of rows.items ≡ directs (lexicon_of line.now.lexicon.now) line.now.compiler (parsed_of line.now.parsed.now)) }
+    ensures { IfOk result (λ rows. directs_of rows.items ≡ directs_by (lexicon_of line.now.lexicon.now) (known_of known.now) line.now.compiler (parsed_of line.now.parsed.now)) }
 {
     if may_direct(line, known) {
-        all_directs(alloc, line.compiler, &known.given, line.parsed)
+        all_directs(alloc, line.compiler, known, line.parsed)
     } else {
         Ok(Vec::new(alloc))
     }

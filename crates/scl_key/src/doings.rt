@@ -4,6 +4,7 @@ ghost use Rattle.std.specs.List.{flat_map};
 ghost use Rattle.scl_text.specs.Records.{parsed_of};
 ghost use Rattle.scl_key.specs.Doings.{barred, bars, is_answered, is_fleeting, is_lost, key_with, output_by, parts_by, parts_told, with_effects};
 ghost use Rattle.scl_key.specs.Keys.{keeping_by, made_paths, no_key, view_of};
+ghost use Rattle.scl_key.specs.Made.{made};
 ghost use Rattle.scl_key.specs.Views.{key_of as key_told, keeping_of as keeping_told, no_keys_of, parts_of};
 
 use crate::key::{Keeping, Key};
@@ -125,7 +126,7 @@ fn parts_with(
     effects: &[Effect],
     parts: Vec<Part>,
 ) -> Mem<Vec<Part>>
-    ensures { IfOk result (λ all. parts_of all.items ≡ parts_of parts.items ++ parts_told (view_of (made_paths (parsed_of parsed.now))) effects.now) }
+    ensures { IfOk result (λ all. parts_of all.items ≡ parts_of parts.items ++ parts_told (view_of (made_paths (made (parsed_of parsed.now)))) effects.now) }
 {
     let mut parts = parts;
     let files = made(alloc, parsed)?;

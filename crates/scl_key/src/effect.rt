@@ -4,7 +4,7 @@ ghost use Rattle.std.specs.List.{flat_map, list_any};
 ghost use Rattle.scl_values.specs.Words.{words_of};
 ghost use Rattle.scl_catalogue.specs.Views.{lexicon_of};
 ghost use Rattle.scl_key.specs.Effects.{assembler_words, behind, handed_words, is_comma, is_plain, judged_in, keeps_macros, pieces, until, writes_by_assembler};
-ghost use Rattle.scl_key.specs.JudgedViews.{all_judged};
+ghost use Rattle.scl_key.specs.KnownViews.{all_judged};
 
 use scl_catalogue::{Doing, Lexicon};
 use scl_text::Mem;
@@ -14,12 +14,7 @@ use std::alloc::Global;
 pub(crate) fn has_comma(text: &[u8]) -> bool
     ensures { result ≡ list_any is_comma text.now }
 {
-    for byte in text {
-        if *byte == b',' {
-            return true;
-        }
-    }
-    false
+    text.iter().any(|byte| *byte == b',')
 }
 
 /// A word, and what it does.

@@ -5,59 +5,59 @@ ghost use Rattle.scl_key.specs.Families.{folder_variables, has_plan, is_clang, i
 use scl_reader::Compiler;
 
 /// Variables of the language and look of gcc's messages.
-static GCC_MESSAGE_VARIABLES: [&'static str; 9] = [
-    "LC_ALL",
-    "LC_CTYPE",
-    "LC_MESSAGES",
-    "LANG",
-    "LANGUAGE",
-    "GCC_COLORS",
-    "GCC_URLS",
-    "TERM_URLS",
-    "GCC_EXTRA_DIAGNOSTIC_OUTPUT",
+static GCC_MESSAGE_VARIABLES: [&'static [u8]; 9] = [
+    b"LC_ALL",
+    b"LC_CTYPE",
+    b"LC_MESSAGES",
+    b"LANG",
+    b"LANGUAGE",
+    b"GCC_COLORS",
+    b"GCC_URLS",
+    b"TERM_URLS",
+    b"GCC_EXTRA_DIAGNOSTIC_OUTPUT",
 ];
 
 /// The variable of the language of cl's messages.
-static CL_MESSAGE_VARIABLES: [&'static str; 1] = ["VSLANG"];
+static CL_MESSAGE_VARIABLES: [&'static [u8]; 1] = [b"VSLANG"];
 
 /// Variables by which gcc writes a file.
-static GCC_FILE_VARIABLES: [&'static str; 2] = ["DEPENDENCIES_OUTPUT", "SUNPRO_DEPENDENCIES"];
+static GCC_FILE_VARIABLES: [&'static [u8]; 2] = [b"DEPENDENCIES_OUTPUT", b"SUNPRO_DEPENDENCIES"];
 
 /// Variables by which clang writes a file, and one that changes its words.
-static CLANG_FILE_VARIABLES: [&'static str; 5] = [
-    "CC_PRINT_OPTIONS",
-    "CC_PRINT_HEADERS",
-    "CC_LOG_DIAGNOSTICS",
-    "CC_PRINT_PROC_STAT",
-    "CCC_OVERRIDE_OPTIONS",
+static CLANG_FILE_VARIABLES: [&'static [u8]; 5] = [
+    b"CC_PRINT_OPTIONS",
+    b"CC_PRINT_HEADERS",
+    b"CC_LOG_DIAGNOSTICS",
+    b"CC_PRINT_PROC_STAT",
+    b"CCC_OVERRIDE_OPTIONS",
 ];
 
 /// Variables that add words.
-static CL_WORD_VARIABLES: [&'static str; 2] = ["CL", "_CL_"];
+static CL_WORD_VARIABLES: [&'static [u8]; 2] = [b"CL", b"_CL_"];
 
 /// A variable that adds words for Diab.
-static DIAB_WORD_VARIABLES: [&'static str; 1] = ["DFLAGS"];
+static DIAB_WORD_VARIABLES: [&'static [u8]; 1] = [b"DFLAGS"];
 
 /// A variable that adds words for TaskingVX.
-static TASKING_WORD_VARIABLES: [&'static str; 1] = ["CCTCOPT"];
+static TASKING_WORD_VARIABLES: [&'static [u8]; 1] = [b"CCTCOPT"];
 
 /// Variables that add words, or by which clang-cl writes a file.
-static CLANG_CL_VARIABLES: [&'static str; 7] = [
-    "CL",
-    "_CL_",
-    "CC_PRINT_OPTIONS",
-    "CC_PRINT_HEADERS",
-    "CC_LOG_DIAGNOSTICS",
-    "CC_PRINT_PROC_STAT",
-    "CCC_OVERRIDE_OPTIONS",
+static CLANG_CL_VARIABLES: [&'static [u8]; 7] = [
+    b"CL",
+    b"_CL_",
+    b"CC_PRINT_OPTIONS",
+    b"CC_PRINT_HEADERS",
+    b"CC_LOG_DIAGNOSTICS",
+    b"CC_PRINT_PROC_STAT",
+    b"CCC_OVERRIDE_OPTIONS",
 ];
 
 /// Variables that name folders in which headers are searched.
-static FOLDER_VARIABLES: [&'static str; 4] = [
-    "CPATH",
-    "C_INCLUDE_PATH",
-    "CPLUS_INCLUDE_PATH",
-    "OBJC_INCLUDE_PATH",
+static FOLDER_VARIABLES: [&'static [u8]; 4] = [
+    b"CPATH",
+    b"C_INCLUDE_PATH",
+    b"CPLUS_INCLUDE_PATH",
+    b"OBJC_INCLUDE_PATH",
 ];
 
 /// Whether it is a driver of Gcc or Clang.
@@ -113,7 +113,7 @@ pub(crate) fn notes_by_runs(compiler: Compiler) -> bool
 }
 
 /// Variables that decide, and that neither a plan nor a run shows.
-pub(crate) fn variables(compiler: Compiler) -> &'static [&'static str]
+pub(crate) fn variables(compiler: Compiler) -> &'static [&'static [u8]]
     ensures { map (λ name. name.now) result.now ≡ variables compiler }
 {
     match compiler {
@@ -128,7 +128,7 @@ pub(crate) fn variables(compiler: Compiler) -> &'static [&'static str]
 }
 
 /// Variables that must not be set.
-pub(crate) fn unset_variables(compiler: Compiler) -> &'static [&'static str]
+pub(crate) fn unset_variables(compiler: Compiler) -> &'static [&'static [u8]]
     ensures { map (λ name. name.now) result.now ≡ unset_variables compiler }
 {
     match compiler {
@@ -142,7 +142,7 @@ pub(crate) fn unset_variables(compiler: Compiler) -> &'static [&'static str]
 }
 
 /// Variables that name folders in which headers are searched.
-pub(crate) fn folder_variables() -> &'static [&'static str]
+pub(crate) fn folder_variables() -> &'static [&'static [u8]]
     ensures { map (λ name. name.now) result.now ≡ folder_variables }
 {
     &FOLDER_VARIABLES

@@ -5,12 +5,10 @@ ghost use Rattle.scl_values.specs.Words.{words_of};
 ghost use Rattle.scl_text.specs.Commands.{pairs_of};
 ghost use Rattle.scl_text.specs.Records.{parsed_of};
 ghost use Rattle.scl_catalogue.specs.Views.{lexicon_of};
-ghost use Rattle.scl_key.specs.Effects.{is_plain, judged_in};
-ghost use Rattle.scl_key.specs.Given.{given_in, has_macros, headers, shows};
-ghost use Rattle.scl_key.specs.GivenViews.{all_given};
-ghost use Rattle.scl_key.specs.JudgedViews.{all_judged};
-ghost use Rattle.scl_key.specs.Keys.{asked_each, asked_parts, assembler_reading, file_parts, key_of, keeping_of, named_each, precompiled_parts, reading, refusals, response_files, searched, stamps_times, telling_of, text_parts, under, whole_key};
-ghost use Rattle.scl_key.specs.Made.{made};
+ghost use Rattle.scl_key.specs.Effects.{is_plain};
+ghost use Rattle.scl_key.specs.Keys.{asked_each, asked_parts, assembler_reading, file_parts, keeping_by, keeping_of, key_by, named_each, no_keys, precompiled_parts, reading, refusals, response_files, searched, stamps_times, telling_of, text_is_enough, text_parts, under, whole_key_by};
+ghost use Rattle.scl_key.specs.Known.{headers};
+ghost use Rattle.scl_key.specs.KnownViews.{all_judged, known_of};
 ghost use Rattle.scl_key.specs.Parts.{asked, output, sources, times};
 ghost use Rattle.scl_key.specs.Runs.{is_assembler};
 ghost use Rattle.scl_key.specs.Views.{outputs_of, parts_of, run_words_of};
@@ -20,13 +18,14 @@ ghost use Rattle.scl_key.specs.declared.part.Ask.TheVariants as Ask;
 use crate::direct::{Direct, directs};
 use crate::effect::{Judged, is_plain};
 use crate::family::{folder_variables, is_clang, is_gcc, unset_variables, variables};
-use crate::given::{Brings, Given, Known, known_of, values_among};
-use crate::made::made;
+use crate::given::values_among;
+use crate::known::{Known, has_macros, known_in, shows};
 use crate::no_key::{NoKey, no_keys};
 use crate::part::{Ask, Output, Part};
 use crate::reads::files_perhaps;
 use crate::runs::{is_among, is_assembler, is_header, push_plans, push_runs};
 use crate::told::{Line, RunWords, told};
+use scl_catalogue::Brings;
 use scl_reader::Compiler;
 use scl_text::Mem;
 use scl_text::command::push_word;
@@ -92,27 +91,12 @@ fn push_asked_each(alloc: Global, parts: &mut Vec<Part>, ask: Ask, names: &[Vec<
     Ok(())
 }
 
-/// Appends what is asked of each of these values.
+/// Appends what is asked of each of these.
 fn push_asked_values(alloc: Global, parts: &mut Vec<Part>, ask: Ask, values: &[&[u8]]) -> Mem<()>
     ensures { OnOk result (parts_of parts.new.items ≡ parts_of parts.old.items ++ asked_each ask (map (λ value. value.now) values.now)) }
 {
     for value in values {
         push_asked(alloc, parts, ask, value)?;
-    }
-    Ok(())
-}
-
-/// Appends what is asked of each variable.
-fn push_asked_variables(
-    alloc: Global,
-    parts: &mut Vec<Part>,
-    ask: Ask,
-    variables: &[&'static str],
-) -> Mem<()>
-    ensures { OnOk result (parts_of parts.new.items ≡ parts_of parts.old.items ++ asked_each ask (map (λ name. name.now) variables.now)) }
-{
-    for variable in variables {
-        push_asked(alloc, parts, ask, variable.as_bytes())?;
     }
     Ok(())
 }
@@ -138,34 +122,17 @@ fn push_named_each(alloc: Global, words: &mut Vec<Vec<u8>>, what: &str, names: &
     Ok(())
 }
 
-/// Appends variables, each after what it is.
-fn push_named_variables(
-    alloc: Global,
-    words: &mut Vec<Vec<u8>>,
-    what: &str,
-    names: &[&'static str],
-) -> Mem<()>
-    ensures { OnOk result (words_of words.new.items ≡ words_of words.old.items ++ named_each what.now (map (λ name. name.now) names.now)) }
-{
-    for name in names {
-        push_word(alloc, words, what.as_bytes())?;
-        push_word(alloc, words, name.as_bytes())?;
-    }
-    Ok(())
-}
-
 /// Where Gcc searches what it may read in the place of the first header.
-fn searched(alloc: Global, given: &[Given<'_>], parsed: &ParsedArguments) -> Mem<Vec<Vec<u8>>>
-    requires given { all_given given.now ≡ given_in (parsed_of parsed.now).preprocessor_args }
-    ensures { IfOk result (λ words. words_of words.items ≡ searched (parsed_of parsed.now)) }
+fn searched(alloc: Global, known: &Known<'_>, parsed: &ParsedArguments) -> Mem<Vec<Vec<u8>>>
+    ensures { IfOk result (λ words. words_of words.items ≡ searched (known_of known.now) (parsed_of parsed.now)) }
 {
     let mut words = Vec::new(alloc);
-    let headers = values_among(alloc, Brings::Header, given)?;
-    let folders = values_among(alloc, Brings::Folder, given)?;
+    let headers = values_among(alloc, Brings::Header, &known.given)?;
+    let folders = values_among(alloc, Brings::Folder, &known.given)?;
     push_named_each(alloc, &mut words, "header", &headers)?;
     push_named_each(alloc, &mut words, "beside", &[parsed.input.as_slice()])?;
     push_named_each(alloc, &mut words, "folder", &folders)?;
-    push_named_variables(alloc, &mut words, "variable", folder_variables())?;
+    push_named_each(alloc, &mut words, "variable", folder_variables())?;
     Ok(words)
 }
 
@@ -174,14 +141,13 @@ fn push_precompiled(
     alloc: Global,
     parts: &mut Vec<Part>,
     compiler: Compiler,
-    given: &[Given<'_>],
+    known: &Known<'_>,
     parsed: &ParsedArguments,
 ) -> Mem<()>
-    requires given { all_given given.now ≡ given_in (parsed_of parsed.now).preprocessor_args }
-    ensures { OnOk result (parts_of parts.new.items ≡ parts_of parts.old.items ++ precompiled_parts compiler (parsed_of parsed.now)) }
+    ensures { OnOk result (parts_of parts.new.items ≡ parts_of parts.old.items ++ precompiled_parts (known_of known.now) compiler (parsed_of parsed.now)) }
 {
     if is_gcc(compiler) {
-        parts.push(Part::Pch(searched(alloc, given, parsed)?))?;
+        parts.push(Part::Pch(searched(alloc, known, parsed)?))?;
     }
     Ok(())
 }
@@ -271,12 +237,10 @@ fn push_files(
     line: &Line<'_, '_>,
     known: &Known<'_>,
 ) -> Mem<()>
-    requires common { all_judged known.now.common.items ≡ judged_in (lexicon_of line.now.lexicon.now) (parsed_of line.now.parsed.now).common_args }
-    requires given { all_given known.now.given.items ≡ given_in (parsed_of line.now.parsed.now).preprocessor_args }
-    ensures { OnOk result (parts_of parts.new.items ≡ parts_of parts.old.items ++ file_parts (lexicon_of line.now.lexicon.now) line.now.compiler (run_words_of line.now.words) (parsed_of line.now.parsed.now)) }
+    ensures { OnOk result (parts_of parts.new.items ≡ parts_of parts.old.items ++ file_parts (known_of known.now) line.now.compiler (run_words_of line.now.words) (parsed_of line.now.parsed.now)) }
 {
-    push_asked_variables(alloc, parts, Ask::Env, variables(line.compiler))?;
-    push_asked_variables(alloc, parts, Ask::Unset, unset_variables(line.compiler))?;
+    push_asked_values(alloc, parts, Ask::Env, variables(line.compiler))?;
+    push_asked_values(alloc, parts, Ask::Unset, unset_variables(line.compiler))?;
     push_asked_each(alloc, parts, Ask::File, &line.parsed.extra_hash_files)?;
     push_asked_each(alloc, parts, Ask::File, response_files(line.words))?;
     let paths = files_perhaps(alloc, line, known)?;
@@ -287,14 +251,13 @@ fn push_files(
 fn push_regular(
     alloc: Global,
     parts: &mut Vec<Part>,
-    given: &[Given<'_>],
+    known: &Known<'_>,
     parsed: &ParsedArguments,
 ) -> Mem<()>
-    requires given { all_given given.now ≡ given_in (parsed_of parsed.now).preprocessor_args }
-    ensures { OnOk result (parts_of parts.new.items ≡ parts_of parts.old.items ++ asked_each Ask.Regular ((parsed_of parsed.now).input ∷ headers (parsed_of parsed.now))) }
+    ensures { OnOk result (parts_of parts.new.items ≡ parts_of parts.old.items ++ asked_each Ask.Regular ((parsed_of parsed.now).input ∷ headers (known_of known.now))) }
 {
     push_asked(alloc, parts, Ask::Regular, &parsed.input)?;
-    let headers = values_among(alloc, Brings::Header, given)?;
+    let headers = values_among(alloc, Brings::Header, &known.given)?;
     push_asked_values(alloc, parts, Ask::Regular, &headers)
 }
 
@@ -305,15 +268,12 @@ fn push_texts(
     line: &Line<'_, '_>,
     known: &Known<'_>,
 ) -> Mem<()>
-    requires common { all_judged known.now.common.items ≡ judged_in (lexicon_of line.now.lexicon.now) (parsed_of line.now.parsed.now).common_args }
-    requires given { all_given known.now.given.items ≡ given_in (parsed_of line.now.parsed.now).preprocessor_args }
-    requires macros { known.now.has_macros ≡ has_macros (lexicon_of line.now.lexicon.now) (parsed_of line.now.parsed.now) }
-    requires shown { known.now.is_shown ≡ shows (lexicon_of line.now.lexicon.now) line.now.compiler (parsed_of line.now.parsed.now) }
-    ensures { OnOk result (parts_of parts.new.items ≡ parts_of parts.old.items ++ text_parts (lexicon_of line.now.lexicon.now) line.now.compiler (parsed_of line.now.parsed.now)) }
+    ensures { OnOk result (parts_of parts.new.items ≡ parts_of parts.old.items ++ text_parts (known_of known.now) line.now.compiler (parsed_of line.now.parsed.now)) }
 {
-    push_runs(alloc, parts, line.compiler, known.has_macros, line.parsed)?;
-    push_precompiled(alloc, parts, line.compiler, &known.given, line.parsed)?;
-    let text_is_enough = known.is_shown && are_plain(&known.common);
+    push_runs(alloc, parts, line.compiler, has_macros(known), line.parsed)?;
+    push_precompiled(alloc, parts, line.compiler, known, line.parsed)?;
+    let text_is_enough = shows(known, line.compiler, line.parsed.language)
+        && are_plain(&known.common);
     push_sources(alloc, parts, line.compiler, text_is_enough)?;
     push_times(parts, line.compiler, line.parsed)?;
     push_refusals(alloc, parts, line.parsed)
@@ -326,17 +286,13 @@ fn push_asking(
     line: &Line<'_, '_>,
     known: &Known<'_>,
 ) -> Mem<()>
-    requires common { all_judged known.now.common.items ≡ judged_in (lexicon_of line.now.lexicon.now) (parsed_of line.now.parsed.now).common_args }
-    requires given { all_given known.now.given.items ≡ given_in (parsed_of line.now.parsed.now).preprocessor_args }
-    requires macros { known.now.has_macros ≡ has_macros (lexicon_of line.now.lexicon.now) (parsed_of line.now.parsed.now) }
-    requires shown { known.now.is_shown ≡ shows (lexicon_of line.now.lexicon.now) line.now.compiler (parsed_of line.now.parsed.now) }
-    ensures { OnOk result (parts_of parts.new.items ≡ parts_of parts.old.items ++ asked_parts (lexicon_of line.now.lexicon.now) line.now.compiler (run_words_of line.now.words) (parsed_of line.now.parsed.now)) }
+    ensures { OnOk result (parts_of parts.new.items ≡ parts_of parts.old.items ++ asked_parts (known_of known.now) line.now.compiler (run_words_of line.now.words) (parsed_of line.now.parsed.now)) }
 {
     parts.push(Part::Directory)?;
     parts.push(Part::Compiler)?;
     push_plans(alloc, parts, line.compiler, line.parsed)?;
     push_files(alloc, parts, line, known)?;
-    push_regular(alloc, parts, &known.given, line.parsed)?;
+    push_regular(alloc, parts, known, line.parsed)?;
     push_texts(alloc, parts, line, known)
 }
 
@@ -350,63 +306,41 @@ fn push_outputs(alloc: Global, parts: &mut Vec<Part>, outputs: &[Output]) -> Mem
     Ok(())
 }
 
-/// The parts of a key, with these outputs.
-fn key_with(
-    alloc: Global,
-    line: &Line<'_, '_>,
-    known: &Known<'_>,
-    outputs: &[Output],
-) -> Mem<Vec<Part>>
-    requires common { all_judged known.now.common.items ≡ judged_in (lexicon_of line.now.lexicon.now) (parsed_of line.now.parsed.now).common_args }
-    requires given { all_given known.now.given.items ≡ given_in (parsed_of line.now.parsed.now).preprocessor_args }
-    requires macros { known.now.has_macros ≡ has_macros (lexicon_of line.now.lexicon.now) (parsed_of line.now.parsed.now) }
-    requires shown { known.now.is_shown ≡ shows (lexicon_of line.now.lexicon.now) line.now.compiler (parsed_of line.now.parsed.now) }
-    requires outputs { outputs_of outputs.now ≡ made (parsed_of line.now.parsed.now) }
-    ensures { IfOk result (λ key. parts_of key.items ≡ key_of (lexicon_of line.now.lexicon.now) line.now.compiler (pairs_of line.now.environment.now) (run_words_of line.now.words) (parsed_of line.now.parsed.now)) }
+/// The parts of a key.
+fn key_with(alloc: Global, line: &Line<'_, '_>, known: &Known<'_>) -> Mem<Vec<Part>>
+    ensures { IfOk result (λ key. parts_of key.items ≡ key_by (known_of known.now) line.now.compiler (pairs_of line.now.environment.now) (run_words_of line.now.words) (parsed_of line.now.parsed.now)) }
 {
-    let mut parts = told(alloc, line, known.is_shown)?;
-    push_outputs(alloc, &mut parts, outputs)?;
+    let is_shown = shows(known, line.compiler, line.parsed.language);
+    let mut parts = told(alloc, line, is_shown)?;
+    push_outputs(alloc, &mut parts, &known.made)?;
     push_asking(alloc, &mut parts, line, known)?;
     Ok(parts)
 }
 
-/// The key, with these outputs, and what direct mode needs.
-fn kept(alloc: Global, line: &Line<'_, '_>, known: &Known<'_>, outputs: &[Output]) -> Mem<Keeping>
-    requires common { all_judged known.now.common.items ≡ judged_in (lexicon_of line.now.lexicon.now) (parsed_of line.now.parsed.now).common_args }
-    requires given { all_given known.now.given.items ≡ given_in (parsed_of line.now.parsed.now).preprocessor_args }
-    requires macros { known.now.has_macros ≡ has_macros (lexicon_of line.now.lexicon.now) (parsed_of line.now.parsed.now) }
-    requires shown { known.now.is_shown ≡ shows (lexicon_of line.now.lexicon.now) line.now.compiler (parsed_of line.now.parsed.now) }
-    requires outputs { outputs_of outputs.now ≡ made (parsed_of line.now.parsed.now) }
-    ensures { IfOk result (λ keeping. keeping_told keeping ≡ under (whole_key (lexicon_of line.now.lexicon.now) line.now.compiler (pairs_of line.now.environment.now) (run_words_of line.now.words) (parsed_of line.now.parsed.now))) }
+/// The key, and what direct mode needs.
+fn kept(alloc: Global, line: &Line<'_, '_>, known: &Known<'_>) -> Mem<Keeping>
+    ensures { IfOk result (λ keeping. keeping_told keeping ≡ under (whole_key_by (lexicon_of line.now.lexicon.now) (known_of known.now) line.now.compiler (pairs_of line.now.environment.now) (run_words_of line.now.words) (parsed_of line.now.parsed.now))) }
 {
-    let parts = key_with(alloc, line, known, outputs)?;
+    let parts = key_with(alloc, line, known)?;
     let direct = directs(alloc, line, known)?;
     Ok(Keeping::Under(Key {
-        is_shown: known.is_shown,
+        is_shown: shows(known, line.compiler, line.parsed.language),
         parts,
         direct,
     }))
 }
 
-/// The key, with these outputs, or why there is none.
-fn kept_unless(
-    alloc: Global,
-    line: &Line<'_, '_>,
-    known: &Known<'_>,
-    outputs: &[Output],
-) -> Mem<Keeping>
-    requires common { all_judged known.now.common.items ≡ judged_in (lexicon_of line.now.lexicon.now) (parsed_of line.now.parsed.now).common_args }
-    requires given { all_given known.now.given.items ≡ given_in (parsed_of line.now.parsed.now).preprocessor_args }
-    requires macros { known.now.has_macros ≡ has_macros (lexicon_of line.now.lexicon.now) (parsed_of line.now.parsed.now) }
-    requires shown { known.now.is_shown ≡ shows (lexicon_of line.now.lexicon.now) line.now.compiler (parsed_of line.now.parsed.now) }
-    requires outputs { outputs_of outputs.now ≡ made (parsed_of line.now.parsed.now) }
-    ensures { IfOk result (λ keeping. keeping_told keeping ≡ keeping_of (lexicon_of line.now.lexicon.now) line.now.compiler (pairs_of line.now.environment.now) (run_words_of line.now.words) (parsed_of line.now.parsed.now)) }
+/// The key, or why there is none.
+fn kept_unless(alloc: Global, line: &Line<'_, '_>, known: &Known<'_>) -> Mem<Keeping>
+    ensures { IfOk result (λ keeping. keeping_told keeping ≡ keeping_by
+        (no_keys (known_of known.now) line.now.compiler (run_words_of line.now.words) (parsed_of line.now.parsed.now))
+        (whole_key_by (lexicon_of line.now.lexicon.now) (known_of known.now) line.now.compiler (pairs_of line.now.environment.now) (run_words_of line.now.words) (parsed_of line.now.parsed.now))) }
 {
-    let why = no_keys(alloc, line, &known.common, outputs)?;
+    let why = no_keys(alloc, line, known)?;
     if !why.is_empty() {
         return Ok(Keeping::Not(why));
     }
-    let keeping = kept(alloc, line, known, outputs)?;
+    let keeping = kept(alloc, line, known)?;
     Ok(keeping)
 }
 
@@ -415,8 +349,7 @@ fn kept_unless(
 pub fn key_of(alloc: Global, line: &Line<'_, '_>) -> Mem<Keeping>
     ensures { IfOk result (λ keeping. keeping_told keeping ≡ keeping_of (lexicon_of line.now.lexicon.now) line.now.compiler (pairs_of line.now.environment.now) (run_words_of line.now.words) (parsed_of line.now.parsed.now)) }
 {
-    let known = known_of(alloc, line)?;
-    let outputs = made(alloc, line.parsed)?;
-    let keeping = kept_unless(alloc, line, &known, &outputs)?;
+    let known = known_in(alloc, line.lexicon, line.parsed)?;
+    let keeping = kept_unless(alloc, line, &known)?;
     Ok(keeping)
 }

@@ -1,8 +1,8 @@
 //! Laws of the definitions of keys, each a clause of a function that does nothing.
 ghost use Rattle.std.specs.Prelude.{◌≡◌, true};
 ghost use Rattle.scl_key.specs.Laws.{DirectHitsAreRight, HitsAreRight, KeysDecideCommands, KeysReadBack};
-ghost use Rattle.scl_key.specs.contracts.given.BringsPartialEq.TheImpl as brought;
-ghost use Rattle.scl_key.specs.declared.given.Brings.{Brings};
+ghost use Rattle.scl_catalogue.specs.contracts.entry.BringsPartialEq.TheImpl as brought;
+ghost use Rattle.scl_catalogue.specs.declared.entry.Brings.{Brings};
 
 /// The law of `==`: what words bring in is one where it is equal.
 pub fn of_equality()

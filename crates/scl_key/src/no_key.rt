@@ -5,21 +5,21 @@ ghost use Rattle.scl_values.specs.Words.{words_of};
 ghost use Rattle.scl_text.specs.Records.{parsed_of};
 ghost use Rattle.scl_description.specs.Rows.{entry_rows, row_entry, rows_of};
 ghost use Rattle.scl_description.specs.Takers.{Adds};
-ghost use Rattle.scl_catalogue.specs.Views.{lexicon_of};
-ghost use Rattle.scl_key.specs.Effects.{assembler_words, behind, judged_in, suffixes, writes_by_assembler};
-ghost use Rattle.scl_key.specs.JudgedViews.{all_judged, judged_of};
+ghost use Rattle.scl_key.specs.Effects.{assembler_words, behind, suffixes, writes_by_assembler};
 ghost use Rattle.scl_key.specs.Keys.{asks_for_rules, hazards, hides_file, is_no_file, lost_files, no_key, no_key_by, no_key_entry, no_keys, no_keys_by_words, reason_name, reason_of, repeated, unnamed, unnamed_by, view_of};
-ghost use Rattle.scl_key.specs.Made.{dependency_files, made};
-ghost use Rattle.scl_key.specs.Views.{no_key_of, no_keys_of, outputs_of, paths_of, run_words_of};
+ghost use Rattle.scl_key.specs.KnownViews.{all_judged, judged_of, known_of};
+ghost use Rattle.scl_key.specs.Made.{dependency_files};
+ghost use Rattle.scl_key.specs.Views.{no_key_of, no_keys_of, paths_of, run_words_of};
 ghost use Rattle.scl_key.specs.declared.no_key.Reason.TheVariants as Reason;
 
-use crate::effect::{Judged, assembler_words, judged_words, push_behind, writes_by_assembler};
+use crate::effect::{Judged, assembler_words, push_behind, writes_by_assembler};
 use crate::family::notes_by_runs;
+use crate::known::Known;
 use crate::made::{dependency_files, handed_file};
 use crate::part::Output;
 use crate::reads::push_values;
 use crate::told::{Line, RunWords};
-use scl_catalogue::{Doing, Lexicon};
+use scl_catalogue::Doing;
 use scl_description::{TakesRows, tell_row};
 use scl_files::View;
 use scl_reader::Compiler;
@@ -122,19 +122,6 @@ fn push_by_words(alloc: Global, why: &mut Vec<NoKey>, words: &[Judged<'_>]) -> M
         push_by_word(alloc, why, one)?;
     }
     Ok(())
-}
-
-/// Appends why there is no key for words of which it is not judged yet what they do.
-fn push_by_unjudged(
-    alloc: Global,
-    why: &mut Vec<NoKey>,
-    lexicon: &Lexicon<'_>,
-    words: &[Vec<u8>],
-) -> Mem<()>
-    ensures { OnOk result (no_keys_of why.new.items ≡ no_keys_of why.old.items ++ flat_map no_key_by (judged_in (lexicon_of lexicon.now) (words_of words.now))) }
-{
-    let words = judged_words(alloc, lexicon, words)?;
-    push_by_words(alloc, why, &words)
 }
 
 fn asks_for_rules(text: &[u8]) -> bool
@@ -350,39 +337,26 @@ fn push_hazard(alloc: Global, why: &mut Vec<NoKey>, words: RunWords<'_>) -> Mem<
 }
 
 /// Appends why there is no key for what the words of a record do.
-fn push_by_record(
-    alloc: Global,
-    why: &mut Vec<NoKey>,
-    line: &Line<'_, '_>,
-    common: &[Judged<'_>],
-) -> Mem<()>
-    requires common { all_judged common.now ≡ judged_in (lexicon_of line.now.lexicon.now) (parsed_of line.now.parsed.now).common_args }
-    ensures { OnOk result (no_keys_of why.new.items ≡ no_keys_of why.old.items ++ no_keys_by_words (lexicon_of line.now.lexicon.now) (parsed_of line.now.parsed.now)) }
+fn push_by_record(alloc: Global, why: &mut Vec<NoKey>, known: &Known<'_>) -> Mem<()>
+    ensures { OnOk result (no_keys_of why.new.items ≡ no_keys_of why.old.items ++ no_keys_by_words (known_of known.now)) }
 {
-    push_by_unjudged(alloc, why, line.lexicon, &line.parsed.preprocessor_args)?;
-    push_by_words(alloc, why, common)?;
-    push_by_unjudged(alloc, why, line.lexicon, &line.parsed.unhashed_args)?;
-    push_by_unjudged(alloc, why, line.lexicon, &line.parsed.dependency_args)
+    push_by_words(alloc, why, &known.preprocessor)?;
+    push_by_words(alloc, why, &known.common)?;
+    push_by_words(alloc, why, &known.unhashed)?;
+    push_by_words(alloc, why, &known.dependency)
 }
 
-/// Why there is no key, with these outputs.
-pub(crate) fn no_keys(
-    alloc: Global,
-    line: &Line<'_, '_>,
-    common: &[Judged<'_>],
-    outputs: &[Output],
-) -> Mem<Vec<NoKey>>
-    requires common { all_judged common.now ≡ judged_in (lexicon_of line.now.lexicon.now) (parsed_of line.now.parsed.now).common_args }
-    requires outputs { outputs_of outputs.now ≡ made (parsed_of line.now.parsed.now) }
-    ensures { IfOk result (λ why. no_keys_of why.items ≡ no_keys (lexicon_of line.now.lexicon.now) line.now.compiler (run_words_of line.now.words) (parsed_of line.now.parsed.now)) }
+/// Why there is no key.
+pub(crate) fn no_keys(alloc: Global, line: &Line<'_, '_>, known: &Known<'_>) -> Mem<Vec<NoKey>>
+    ensures { IfOk result (λ why. no_keys_of why.items ≡ no_keys (known_of known.now) line.now.compiler (run_words_of line.now.words) (parsed_of line.now.parsed.now)) }
 {
     let mut why = Vec::new(alloc);
     push_hazard(alloc, &mut why, line.words)?;
-    push_by_record(alloc, &mut why, line, common)?;
+    push_by_record(alloc, &mut why, known)?;
     let unnamed = unnamed(alloc, line.compiler, line.parsed)?;
     push_each(alloc, &mut why, Reason::WritesUnnamed, &unnamed)?;
-    push_no_files(alloc, &mut why, outputs)?;
-    push_repeated(alloc, &mut why, outputs)?;
+    push_no_files(alloc, &mut why, &known.made)?;
+    push_repeated(alloc, &mut why, &known.made)?;
     Ok(why)
 }
 

@@ -5,20 +5,18 @@ ghost use Rattle.std.specs.Option.{option_copied};
 ghost use Rattle.scl_values.specs.Words.{words_of};
 ghost use Rattle.scl_text.specs.Commands.{object_of};
 ghost use Rattle.scl_text.specs.Records.{parsed_of};
-ghost use Rattle.scl_catalogue.specs.Views.{lexicon_of};
-ghost use Rattle.scl_key.specs.Effects.{judged, judged_in};
+ghost use Rattle.scl_key.specs.Effects.{judged};
 ghost use Rattle.scl_key.specs.Families.{is_clang};
-ghost use Rattle.scl_key.specs.Given.{given_in, values_among};
-ghost use Rattle.scl_key.specs.GivenViews.{all_given};
-ghost use Rattle.scl_key.specs.JudgedViews.{all_judged};
-ghost use Rattle.scl_key.specs.Reads.{comma_parts, files_perhaps, is_path, paths_by, precompiled, profile_by, values, with_values, without_at};
-ghost use Rattle.scl_key.specs.declared.given.Brings.TheVariants as Brings;
+ghost use Rattle.scl_key.specs.Known.{macro_files};
+ghost use Rattle.scl_key.specs.KnownViews.{all_judged, known_of};
+ghost use Rattle.scl_key.specs.Reads.{comma_parts, files_perhaps, is_path, paths_by, precompiled, precompiled_headers, profile_by, values, with_values, without_at};
 
-use crate::effect::{Judged, has_comma, is_plain, judged_words, push_pieces, until};
+use crate::effect::{Judged, has_comma, is_plain, push_pieces, until};
 use crate::family::is_clang;
-use crate::given::{Brings, Given, Known, values_among};
+use crate::given::values_among;
+use crate::known::Known;
 use crate::told::Line;
-use scl_catalogue::Doing;
+use scl_catalogue::{Brings, Doing};
 use scl_files::path::with_extension;
 use scl_reader::Compiler;
 use scl_text::Mem;
@@ -206,14 +204,14 @@ fn push_precompiled_headers(
     alloc: Global,
     paths: &mut Vec<Vec<u8>>,
     compiler: Compiler,
-    given: &[Given<'_>],
+    known: &Known<'_>,
 ) -> Mem<()>
-    ensures { OnOk result (words_of paths.new.items ≡ words_of paths.old.items ++ (if is_clang compiler then flat_map precompiled (values_among Brings.Header (all_given given.now)) else [])) }
+    ensures { OnOk result (words_of paths.new.items ≡ words_of paths.old.items ++ precompiled_headers compiler (known_of known.now)) }
 {
     if !is_clang(compiler) {
         return Ok(());
     }
-    let headers = values_among(alloc, Brings::Header, given)?;
+    let headers = values_among(alloc, Brings::Header, &known.given)?;
     push_all_precompiled(alloc, paths, &headers)
 }
 
@@ -228,10 +226,10 @@ pub(crate) fn push_values(alloc: Global, paths: &mut Vec<Vec<u8>>, values: &[&[u
 }
 
 /// Appends the files of which only the macros are read.
-fn push_macro_files(alloc: Global, paths: &mut Vec<Vec<u8>>, given: &[Given<'_>]) -> Mem<()>
-    ensures { OnOk result (words_of paths.new.items ≡ words_of paths.old.items ++ values_among Brings.MacroFile (all_given given.now)) }
+fn push_macro_files(alloc: Global, paths: &mut Vec<Vec<u8>>, known: &Known<'_>) -> Mem<()>
+    ensures { OnOk result (words_of paths.new.items ≡ words_of paths.old.items ++ macro_files (known_of known.now)) }
 {
-    let files = values_among(alloc, Brings::MacroFile, given)?;
+    let files = values_among(alloc, Brings::MacroFile, &known.given)?;
     push_values(alloc, paths, &files)
 }
 
@@ -241,16 +239,13 @@ pub(crate) fn files_perhaps(
     line: &Line<'_, '_>,
     known: &Known<'_>,
 ) -> Mem<Vec<Vec<u8>>>
-    requires common { all_judged known.now.common.items ≡ judged_in (lexicon_of line.now.lexicon.now) (parsed_of line.now.parsed.now).common_args }
-    requires given { all_given known.now.given.items ≡ given_in (parsed_of line.now.parsed.now).preprocessor_args }
-    ensures { IfOk result (λ paths. words_of paths.items ≡ files_perhaps (lexicon_of line.now.lexicon.now) line.now.compiler (parsed_of line.now.parsed.now)) }
+    ensures { IfOk result (λ paths. words_of paths.items ≡ files_perhaps (known_of known.now) line.now.compiler (parsed_of line.now.parsed.now)) }
 {
     let mut paths = Vec::new(alloc);
     push_paths(alloc, &mut paths, &known.common)?;
-    let unhashed = judged_words(alloc, line.lexicon, &line.parsed.unhashed_args)?;
-    push_paths(alloc, &mut paths, &unhashed)?;
-    push_macro_files(alloc, &mut paths, &known.given)?;
+    push_paths(alloc, &mut paths, &known.unhashed)?;
+    push_macro_files(alloc, &mut paths, known)?;
     push_profiles(alloc, &mut paths, &known.common, line.parsed)?;
-    push_precompiled_headers(alloc, &mut paths, line.compiler, &known.given)?;
+    push_precompiled_headers(alloc, &mut paths, line.compiler, known)?;
     Ok(paths)
 }

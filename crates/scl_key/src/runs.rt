@@ -19,7 +19,7 @@ use scl_gnu::clang::Clang;
 use scl_gnu::gcc::{Gcc, without_output_files};
 use scl_msvc::msvc::Msvc;
 use scl_reader::{Compiler, RunOptions};
-use scl_text::command::{append_words, copy_words, push_word};
+use scl_text::command::{append_words, push_word};
 use scl_text::language::Language;
 use scl_text::records::{CommandError, ParsedArguments};
 use scl_text::{CCompilerImpl, Mem, View};
@@ -381,21 +381,21 @@ fn runs_else(alloc: Global, compiler: Compiler, parsed: &ParsedArguments) -> Mem
 }
 
 /// Appends runs.
-fn push_each_run(alloc: Global, parts: &mut Vec<Part>, runs: &[Vec<Vec<u8>>]) -> Mem<()>
-    ensures { OnOk result (parts_of parts.new.items ≡ parts_of parts.old.items ++ map run (runs_of runs.now)) }
+fn push_each_run(parts: &mut Vec<Part>, runs: Vec<Vec<Vec<u8>>>) -> Mem<()>
+    ensures { OnOk result (parts_of parts.new.items ≡ parts_of parts.old.items ++ map run (runs_of runs.items)) }
 {
     for one in runs {
-        parts.push(Part::Run(copy_words(alloc, one)?))?;
+        parts.push(Part::Run(one))?;
     }
     Ok(())
 }
 
 /// Appends runs for the case that others failed.
-fn push_each_else(alloc: Global, parts: &mut Vec<Part>, runs: &[Vec<Vec<u8>>]) -> Mem<()>
-    ensures { OnOk result (parts_of parts.new.items ≡ parts_of parts.old.items ++ map run_else (runs_of runs.now)) }
+fn push_each_else(parts: &mut Vec<Part>, runs: Vec<Vec<Vec<u8>>>) -> Mem<()>
+    ensures { OnOk result (parts_of parts.new.items ≡ parts_of parts.old.items ++ map run_else (runs_of runs.items)) }
 {
     for one in runs {
-        parts.push(Part::RunElse(copy_words(alloc, one)?))?;
+        parts.push(Part::RunElse(one))?;
     }
     Ok(())
 }
@@ -411,7 +411,7 @@ pub(crate) fn push_runs(
     ensures { OnOk result (parts_of parts.new.items ≡ parts_of parts.old.items ++ run_parts macros compiler (parsed_of parsed.now)) }
 {
     let runs = key_runs(alloc, compiler, macros, parsed)?;
-    push_each_run(alloc, parts, &runs)?;
+    push_each_run(parts, runs)?;
     let runs = runs_else(alloc, compiler, parsed)?;
-    push_each_else(alloc, parts, &runs)
+    push_each_else(parts, runs)
 }

@@ -3,10 +3,8 @@ ghost use Rattle.std.specs.Prelude.{◌≡◌, ◌++◌, ◌∷◌, map, codes, 
 ghost use Rattle.scl_values.specs.Words.{words_of};
 ghost use Rattle.scl_text.specs.Commands.{pairs_of};
 ghost use Rattle.scl_text.specs.Records.{parsed_of};
-ghost use Rattle.scl_catalogue.specs.Views.{lexicon_of};
-ghost use Rattle.scl_key.specs.Given.{shows};
 ghost use Rattle.scl_key.specs.Parts.{is};
-ghost use Rattle.scl_key.specs.Told.{facts_shown, flat_pairs, is_left_out, run_words_fields, told};
+ghost use Rattle.scl_key.specs.Told.{facts_shown, flat_pairs, is_left_out, run_words_fields, told_by};
 ghost use Rattle.scl_key.specs.Views.{part_of, parts_of, run_words_of};
 
 use crate::part::Part;
@@ -130,8 +128,7 @@ fn facts_beside(alloc: Global, line: &Line<'_, '_>, is_shown: bool) -> Mem<Vec<P
 
 /// What is hashed as it stands.
 pub(crate) fn told(alloc: Global, line: &Line<'_, '_>, is_shown: bool) -> Mem<Vec<Part>>
-    requires shown { is_shown ≡ shows (lexicon_of line.now.lexicon.now) line.now.compiler (parsed_of line.now.parsed.now) }
-    ensures { IfOk result (λ parts. parts_of parts.items ≡ told (lexicon_of line.now.lexicon.now) line.now.compiler (pairs_of line.now.environment.now) (run_words_of line.now.words) (parsed_of line.now.parsed.now)) }
+    ensures { IfOk result (λ parts. parts_of parts.items ≡ told_by is_shown line.now.compiler (pairs_of line.now.environment.now) (run_words_of line.now.words) (parsed_of line.now.parsed.now)) }
 {
     let parts = facts_beside(alloc, line, is_shown)?;
     let mut facts = Facts {

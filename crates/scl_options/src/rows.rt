@@ -67,7 +67,7 @@ const LINE: &[&str] = &["explain", "command", "check"];
 
 /// The commands that take a catalogue.
 const KNOWING: &[&str] = &[
-    "explain", "command", "check", "database", "why", "diff", "reasons",
+    "explain", "command", "check", "database", "why", "diff", "flags", "reasons",
 ];
 
 /// The options, and the values without one, in the order of the help.

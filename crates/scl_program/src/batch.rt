@@ -6,7 +6,7 @@ use crate::fault::{Fault, warn};
 use crate::file::{name_of, read_file};
 use crate::one::variables_of;
 use crate::progress::Progress;
-use scl_describe::Tables;
+use scl_describe::Catalogue;
 use scl_explain::Ending;
 use scl_report::{
     Batch, Database, DatabaseError, EntryReader, EntryValue, Tally, ending_of_counts,
@@ -168,12 +168,12 @@ pub fn database_at(rt: &HostRuntime, path: &str) -> Result<Option<Database>, Fau
 /// How entries are answered of which this is requested.
 pub fn batch_of<'a>(
     rt: &HostRuntime,
-    tables: &Tables<'a>,
+    catalogue: &'a Catalogue,
     asked: &Asked<'_, '_>,
 ) -> Result<Batch<'a>, Fault> {
     let alloc = rt.alloc();
     Ok(Batch {
-        tables: *tables,
+        catalogue,
         launchers: asked.values(alloc, "--launcher")?,
         named: asked.compiler(),
         base: working_directory(rt)?,
@@ -189,11 +189,11 @@ pub fn batch_of<'a>(
 /// Answers each entry of a database.
 pub fn database(
     rt: &HostRuntime,
-    tables: &Tables<'_>,
+    catalogue: &Catalogue,
     asked: &Asked<'_, '_>,
 ) -> Result<Ending, Fault> {
     let path = asked.value("path").unwrap_or("-");
-    let batch = batch_of(rt, tables, asked)?;
+    let batch = batch_of(rt, catalogue, asked)?;
     if path == "-" {
         return answer_database(rt, &batch, path, &mut rt.stdin());
     }

@@ -7,7 +7,7 @@ use crate::fault::{Fault, warn};
 use crate::file::name_of;
 use crate::one::case_of_words;
 use crate::tables::write;
-use scl_describe::Tables;
+use scl_describe::Catalogue;
 use scl_explain::{Case, Ending};
 use scl_report::{
     Batch, Compared, Database, EntryValue, Pairs, Partners, Sources, file_of, lines_json,
@@ -22,9 +22,9 @@ fn ending_of(are_equal: bool) -> Ending {
 }
 
 /// What is compared of a command line.
-fn compared(rt: &HostRuntime, tables: &Tables<'_>, case: &Case) -> Result<Compared, Fault> {
+fn compared(rt: &HostRuntime, catalogue: &Catalogue, case: &Case) -> Result<Compared, Fault> {
     let disk = SystemDisk::new(rt);
-    match Compared::of_case(rt.alloc(), &disk, tables, case)? {
+    match Compared::of_case(rt.alloc(), &disk, catalogue, case)? {
         Ok(compared) => Ok(compared),
         Err(why) => Err(Fault::Input(why)),
     }
@@ -49,7 +49,7 @@ fn tell(
 
 fn lines(
     rt: &HostRuntime,
-    tables: &Tables<'_>,
+    catalogue: &Catalogue,
     asked: &Asked<'_, '_>,
     first: &[Vec<u8>],
     second: &[Vec<u8>],
@@ -62,8 +62,8 @@ fn lines(
     let Some(second) = case_of_words(rt, asked, second, here)? else {
         return Ok(Ending::Usage);
     };
-    let first = compared(rt, tables, &first)?;
-    let second = compared(rt, tables, &second)?;
+    let first = compared(rt, catalogue, &first)?;
+    let second = compared(rt, catalogue, &second)?;
     tell(rt, &first, &second, asked.has("--json"))
 }
 
@@ -74,7 +74,7 @@ fn compared_entry(
     value: &EntryValue,
 ) -> Result<Option<Compared>, Fault> {
     match batch.case_of(rt.alloc(), value)? {
-        Ok(case) => Ok(Some(compared(rt, &batch.tables, &case)?)),
+        Ok(case) => Ok(Some(compared(rt, batch.catalogue, &case)?)),
         Err(error) => {
             warn(rt, &error);
             Ok(None)
@@ -213,15 +213,19 @@ fn databases(
 }
 
 /// Says what two command lines differ in.
-pub fn diff(rt: &HostRuntime, tables: &Tables<'_>, asked: &Asked<'_, '_>) -> Result<Ending, Fault> {
+pub fn diff(
+    rt: &HostRuntime,
+    catalogue: &Catalogue,
+    asked: &Asked<'_, '_>,
+) -> Result<Ending, Fault> {
     match asked.compare(rt.alloc())? {
-        Some(Compare::Lines(first, second)) => lines(rt, tables, asked, &first, &second),
+        Some(Compare::Lines(first, second)) => lines(rt, catalogue, asked, &first, &second),
         Some(Compare::Entries(path, first, second)) => {
-            let batch = batch_of(rt, tables, asked)?;
+            let batch = batch_of(rt, catalogue, asked)?;
             entries(rt, &batch, path.as_str(), first.as_str(), second.as_str())
         }
         Some(Compare::Databases(first, second)) => {
-            let batch = batch_of(rt, tables, asked)?;
+            let batch = batch_of(rt, catalogue, asked)?;
             databases(rt, &batch, first.as_str(), second.as_str())
         }
         None => Ok(Ending::Usage),

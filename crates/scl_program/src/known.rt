@@ -4,13 +4,13 @@ use crate::fault::{Fault, warn};
 use crate::file::{name_of, read_regular_file};
 use crate::{BuiltIn, batch, diff, one, tables, why};
 use scl_catalogue_text::{BadLine, ReadError};
-use scl_describe::{Catalogue, PlainNames, Tables};
+use scl_describe::Catalogue;
 use scl_explain::Ending;
 use scl_reader::is_apple;
 use scl_shell::shown_briefly;
 
-/// Answers a request, by what is known.
-fn answer(rt: &HostRuntime, known: &Tables<'_>, asked: &Asked<'_, '_>) -> Result<Ending, Fault> {
+/// Answers a request, by a catalogue.
+fn answer(rt: &HostRuntime, known: &Catalogue, asked: &Asked<'_, '_>) -> Result<Ending, Fault> {
     match asked.name {
         "explain" => one::explain(rt, known, asked),
         "command" => one::command(rt, known, asked),
@@ -18,18 +18,9 @@ fn answer(rt: &HostRuntime, known: &Tables<'_>, asked: &Asked<'_, '_>) -> Result
         "database" => batch::database(rt, known, asked),
         "why" => why::why(rt, known, asked),
         "diff" => diff::diff(rt, known, asked),
-        _ => tables::reasons(rt, known.catalogue, asked),
+        "flags" => tables::words(rt, known, asked),
+        _ => tables::reasons(rt, known, asked),
     }
-}
-
-/// Answers a request, by a catalogue.
-fn answer_with(
-    rt: &HostRuntime,
-    catalogue: &Catalogue,
-    plain: PlainNames<'static>,
-    asked: &Asked<'_, '_>,
-) -> Result<Ending, Fault> {
-    answer(rt, &Tables { catalogue, plain }, asked)
 }
 
 /// Reports the first wrong line of a catalogue, with the word that is wrong.
@@ -62,7 +53,7 @@ fn answer_by_file<B: BuiltIn>(
 ) -> Result<Ending, Fault> {
     let text = read_regular_file(rt, path)?;
     match built_in.over(rt.alloc(), &text) {
-        Ok(catalogue) => answer_with(rt, &catalogue, built_in.plain(), asked),
+        Ok(catalogue) => answer(rt, &catalogue, asked),
         Err(ReadError::BadLine(bad)) if bad.line == 0 => wrong_built_in(rt, bad),
         Err(ReadError::BadLine(bad)) => wrong_line(rt, path, &text, bad),
         Err(ReadError::Memory) => Err(Fault::Memory),
@@ -76,7 +67,7 @@ fn answer_by_built_in<B: BuiltIn>(
     asked: &Asked<'_, '_>,
 ) -> Result<Ending, Fault> {
     match built_in.catalogue(rt.alloc()) {
-        Ok(catalogue) => answer_with(rt, &catalogue, built_in.plain(), asked),
+        Ok(catalogue) => answer(rt, &catalogue, asked),
         Err(ReadError::BadLine(bad)) => wrong_built_in(rt, bad),
         Err(ReadError::Memory) => Err(Fault::Memory),
     }
@@ -127,7 +118,7 @@ pub fn answer_by<B: BuiltIn>(
         return Ok(Ending::Usage);
     }
     match asked.name {
-        "flags" => tables::flags(rt, asked),
+        "flags" if asked.words.len() < 2 => tables::flags(rt, asked),
         "completions" | "man" => tables::page(rt, asked),
         _ => answer_by_catalogue(rt, built_in, asked),
     }

@@ -19,7 +19,7 @@ mod why;
 use crate::arguments::raw_arguments;
 use crate::fault::{Fault, warn};
 use scl_catalogue_text::ReadError;
-use scl_describe::{Catalogue, PlainNames};
+use scl_describe::Catalogue;
 use scl_explain::Ending;
 use std::alloc::Global;
 
@@ -30,9 +30,6 @@ pub trait BuiltIn {
 
     /// Reads this text as a catalogue over it. The line of an error is 0 where the text is right, and what is built in is not.
     fn over(&self, alloc: Global, text: &[u8]) -> Result<Catalogue, ReadError>;
-
-    /// Names of options that read, write, ask and load nothing.
-    fn plain(&self) -> PlainNames<'static>;
 }
 
 fn answer_arguments<B: BuiltIn>(rt: &HostRuntime, built_in: &B) -> Result<Ending, Fault> {

@@ -5,7 +5,7 @@ use crate::disk::SystemDisk;
 use crate::fault::{Fault, warn};
 use scl_cl::text::command::copy_words;
 use scl_cl::{ColorMode, path};
-use scl_describe::Tables;
+use scl_describe::Catalogue;
 use scl_explain::{
     Case, CaseError, CommandForm, Conditions, Ending, Form, Means, Paint, Reply, WordForm,
     check as check_reply, command as command_reply, explain as explain_reply,
@@ -92,10 +92,10 @@ fn case_of(rt: &HostRuntime, asked: &Asked<'_, '_>) -> Result<Option<Case>, Faul
 }
 
 /// Reports to a person at a terminal what a command line names that is not there.
-fn tell_absent(rt: &HostRuntime, tables: &Tables<'_>, case: &Case) -> Result<(), Fault> {
+fn tell_absent(rt: &HostRuntime, catalogue: &Catalogue, case: &Case) -> Result<(), Fault> {
     if rt.stderr().is_terminal() {
         let disk = SystemDisk::new(rt);
-        let text = absent_text(rt.alloc(), &disk, tables, case)?;
+        let text = absent_text(rt.alloc(), &disk, catalogue, case)?;
         for line in text.lines() {
             warn(rt, &line);
         }
@@ -140,10 +140,13 @@ fn form_of(rt: &HostRuntime, asked: &Asked<'_, '_>) -> Form {
 }
 
 /// What a command line is answered by.
-fn means_of<'r, 't>(rt: &'r HostRuntime, tables: &Tables<'t>) -> Means<'t, SystemDisk<'r>, Pages> {
+fn means_of<'r, 't>(
+    rt: &'r HostRuntime,
+    catalogue: &'t Catalogue,
+) -> Means<'t, SystemDisk<'r>, Pages> {
     Means {
         disk: SystemDisk::new(rt),
-        tables: *tables,
+        catalogue,
         report: Pages,
     }
 }
@@ -151,14 +154,14 @@ fn means_of<'r, 't>(rt: &'r HostRuntime, tables: &Tables<'t>) -> Means<'t, Syste
 /// Says what a command line is.
 pub fn explain(
     rt: &HostRuntime,
-    tables: &Tables<'_>,
+    catalogue: &Catalogue,
     asked: &Asked<'_, '_>,
 ) -> Result<Ending, Fault> {
     let Some(case) = case_of(rt, asked)? else {
         return Ok(Ending::Usage);
     };
-    tell_absent(rt, tables, &case)?;
-    let by = means_of(rt, tables);
+    tell_absent(rt, catalogue, &case)?;
+    let by = means_of(rt, catalogue);
     let reply = explain_reply(rt.alloc(), &by, &case, form_of(rt, asked))?;
     say(rt, &reply)
 }
@@ -194,15 +197,15 @@ fn put_color(rt: &HostRuntime, asked: &Asked<'_, '_>, case: &mut Case) -> Result
 /// Writes the command to run in the place of a command line.
 pub fn command(
     rt: &HostRuntime,
-    tables: &Tables<'_>,
+    catalogue: &Catalogue,
     asked: &Asked<'_, '_>,
 ) -> Result<Ending, Fault> {
     let Some(mut case) = case_of(rt, asked)? else {
         return Ok(Ending::Usage);
     };
     put_color(rt, asked, &mut case)?;
-    tell_absent(rt, tables, &case)?;
-    let by = means_of(rt, tables);
+    tell_absent(rt, catalogue, &case)?;
+    let by = means_of(rt, catalogue);
     let form = CommandForm {
         words: word_form(rt, asked),
         is_strict: asked.has("--strict"),
@@ -214,13 +217,13 @@ pub fn command(
 /// Which hazards a command line has, or whether its outcome may be kept.
 fn checked(
     rt: &HostRuntime,
-    tables: &Tables<'_>,
+    catalogue: &Catalogue,
     asked: &Asked<'_, '_>,
     case: &Case,
 ) -> Result<Reply, Fault> {
-    let (by, form) = (means_of(rt, tables), form_of(rt, asked));
+    let (by, form) = (means_of(rt, catalogue), form_of(rt, asked));
     if asked.has("--keep") {
-        return Ok(check_kept(rt.alloc(), &by.disk, tables, case, form)?);
+        return Ok(check_kept(rt.alloc(), &by.disk, catalogue, case, form)?);
     }
     Ok(check_reply(rt.alloc(), &by, case, form)?)
 }
@@ -228,13 +231,13 @@ fn checked(
 /// Says which hazards a command line has, or whether its outcome may be kept.
 pub fn check(
     rt: &HostRuntime,
-    tables: &Tables<'_>,
+    catalogue: &Catalogue,
     asked: &Asked<'_, '_>,
 ) -> Result<Ending, Fault> {
     let Some(case) = case_of(rt, asked)? else {
         return Ok(Ending::Usage);
     };
-    tell_absent(rt, tables, &case)?;
-    let reply = checked(rt, tables, asked, &case)?;
+    tell_absent(rt, catalogue, &case)?;
+    let reply = checked(rt, catalogue, asked, &case)?;
     say(rt, &reply)
 }

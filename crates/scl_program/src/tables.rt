@@ -5,7 +5,7 @@ use scl_cl::Compiler;
 use scl_describe::Catalogue;
 use scl_explain::Ending;
 use scl_help::{BASH, FISH, MANUAL, ZSH};
-use scl_report::{flags_json, flags_text, reasons_json, reasons_text};
+use scl_report::{flags_json, flags_text, reasons_json, reasons_text, words_json, words_text};
 use scl_shell::shown_briefly;
 use std::io::Write;
 
@@ -27,17 +27,27 @@ pub fn reasons(
     write(rt, reasons_text(rt.alloc(), catalogue)?.as_bytes())
 }
 
-/// Writes the flags of one compiler's tables, or of all, or what words of it are.
-fn write_flags(
-    rt: &HostRuntime,
-    compiler: Option<Compiler>,
-    words: &[Vec<u8>],
-    json: bool,
-) -> Result<Ending, Fault> {
+/// Writes the flags of one compiler's tables, or of all.
+fn write_flags(rt: &HostRuntime, compiler: Option<Compiler>, json: bool) -> Result<Ending, Fault> {
     if json {
-        return write(rt, &flags_json(rt.alloc(), compiler, words)?);
+        return write(rt, &flags_json(rt.alloc(), compiler)?);
     }
-    write(rt, flags_text(rt.alloc(), compiler, words)?.as_bytes())
+    write(rt, flags_text(rt.alloc(), compiler)?.as_bytes())
+}
+
+/// Writes what words of a compiler are.
+fn write_words(
+    rt: &HostRuntime,
+    catalogue: &Catalogue,
+    compiler: Compiler,
+    asked: &Asked<'_, '_>,
+) -> Result<Ending, Fault> {
+    let words = asked.words.get(1..).unwrap_or(&[]);
+    if asked.has("--json") {
+        return write(rt, &words_json(rt.alloc(), catalogue, compiler, words)?);
+    }
+    let text = words_text(rt.alloc(), catalogue, compiler, words)?;
+    write(rt, text.as_bytes())
 }
 
 /// Reports that a word names no compiler.
@@ -50,17 +60,30 @@ fn no_compiler(rt: &HostRuntime, word: &[u8]) -> Result<Ending, Fault> {
     Ok(Ending::Usage)
 }
 
-/// Writes the flags of the compilers' tables, or what words are.
+/// Writes the flags of the compilers' tables, of the one that is named or of all.
 pub fn flags(rt: &HostRuntime, asked: &Asked<'_, '_>) -> Result<Ending, Fault> {
     let json = asked.has("--json");
     let Some(first) = asked.words.first() else {
-        return write_flags(rt, None, &[], json);
+        return write_flags(rt, None, json);
     };
     match Compiler::named(first) {
-        Some(compiler) => {
-            let words = asked.words.get(1..).unwrap_or(&[]);
-            write_flags(rt, Some(compiler), words, json)
-        }
+        Some(compiler) => write_flags(rt, Some(compiler), json),
+        None => no_compiler(rt, first),
+    }
+}
+
+/// Writes what the words of the compiler are that is named, and what the catalogue says of them.
+pub fn words(
+    rt: &HostRuntime,
+    catalogue: &Catalogue,
+    asked: &Asked<'_, '_>,
+) -> Result<Ending, Fault> {
+    let first = asked
+        .words
+        .first()
+        .map_or(b"".as_slice(), |word| word.as_slice());
+    match Compiler::named(first) {
+        Some(compiler) => write_words(rt, catalogue, compiler, asked),
         None => no_compiler(rt, first),
     }
 }

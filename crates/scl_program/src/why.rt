@@ -5,7 +5,7 @@ use crate::disk::SystemDisk;
 use crate::fault::{Fault, warn};
 use crate::file::name_of;
 use crate::tables::write;
-use scl_describe::Tables;
+use scl_describe::Catalogue;
 use scl_explain::Ending;
 use scl_report::{Batch, EntryValue, Sources, Whys};
 
@@ -32,13 +32,17 @@ fn no_entry(rt: &HostRuntime, path: &str, file: &str) -> Result<(), Fault> {
 }
 
 /// Says of each source why its entries can or can't be cached.
-pub fn why(rt: &HostRuntime, tables: &Tables<'_>, asked: &Asked<'_, '_>) -> Result<Ending, Fault> {
+pub fn why(
+    rt: &HostRuntime,
+    catalogue: &Catalogue,
+    asked: &Asked<'_, '_>,
+) -> Result<Ending, Fault> {
     let alloc = rt.alloc();
     let path = asked.database(alloc, 0)?;
     let Some(database) = database_at(rt, path.as_str())? else {
         return Ok(Ending::BadDatabase);
     };
-    let batch = batch_of(rt, tables, asked)?;
+    let batch = batch_of(rt, catalogue, asked)?;
     let sources = Sources::of_entries(alloc, &batch.base, database.entries())?;
     let (mut whys, mut has_all) = (Whys::new(alloc), true);
     for file in asked.read.get_strs("files").unwrap_or(&[]) {

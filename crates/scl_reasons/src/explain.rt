@@ -1,19 +1,19 @@
 //! The sentence of a reason.
-ghost use Rattle.std.specs.Prelude.{◌≡◌, map, unwrap_or};
+ghost use Rattle.std.specs.Prelude.{◌≡◌, true, map, unwrap_or};
+ghost use Rattle.std.specs.List.{flat_map};
 ghost use Rattle.std.specs.Option.{option_copied};
-ghost use Rattle.scl_reasons.specs.Explanations.{explained, is_explained_by, text_for, text_given};
+ghost use Rattle.scl_reasons.specs.Explanations.{explained, is_one_of, stand_once, text_for, text_given};
 ghost use Rattle.scl_reasons.specs.Table.{other, table};
 
 use crate::table::{EXPLANATIONS, OTHER};
 
-/// A sentence for people, and the reasons that it explains.
-#[derive(Clone, Copy, Debug)]
-pub struct Explanation {
-    /// What the reasons mean, and what to do.
-    pub text: &'static str,
-    /// The reasons, as answers have them.
-    pub reasons: &'static [&'static str],
-}
+/// A sentence for people, which says what reasons mean and what to do; and these reasons, as answers have them.
+pub type Explanation = (&'static str, &'static [&'static str]);
+
+/// A law of the table: each reason stands in it once.
+pub fn of_table()
+    ensures { stand_once (flat_map (λ e. e.reasons) table) ≡ true }
+{}
 
 /// All explanations. Each reason that a compiler of this repository gives is in exactly one, once (docs/RULES.md, Sentences).
 #[tactic(auto, unfolding(crate::specs::Table::table))]
@@ -23,21 +23,20 @@ pub fn explanations() -> &'static [Explanation]
     EXPLANATIONS
 }
 
-/// Whether it explains the reason.
-fn explains(explanation: &Explanation, reason: &str) -> bool
-    ensures { result ≡ is_explained_by explanation.now reason.now }
+fn is_one_of(reasons: &[&str], reason: &str) -> bool
+    ensures { result ≡ is_one_of reasons.now reason.now }
 {
-    explanation.reasons.iter().any(|name| *name == reason)
+    reasons.iter().any(|name| *name == reason)
 }
 
 /// The text of the first that explains the reason.
 fn text_in(explanations: &[Explanation], reason: &str) -> Option<&'static str>
     ensures { option_copied result ≡ text_given reason.now explanations.now }
 {
-    let found = explanations
+    let (text, _) = explanations
         .iter()
-        .find(|explanation| explains(explanation, reason))?;
-    Some(found.text)
+        .find(|(_, reasons)| is_one_of(reasons, reason))?;
+    Some(text)
 }
 
 /// The sentence of a reason that a compiler of this repository gives; `None` for any other.

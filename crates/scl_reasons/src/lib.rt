@@ -3,11 +3,11 @@
 
 macro_rules! explanation {
     ($text:literal $($reason:literal)*) => {
-        crate::explain::Explanation { text: $text, reasons: &[$($reason),*] }
+        ($text, &[$($reason),*])
     };
 }
 
 mod explain;
 mod table;
 
-pub use explain::{Explanation, explanations, known_sentence, sentence};
+pub use explain::{Explanation, explanations, known_sentence, of_table, sentence};

@@ -1,4 +1,4 @@
-//! The sentences of reasons; `catalogue/build` writes them.
+//! The sentences of reasons: each says what its reasons mean, and what one can do.
 use crate::explain::Explanation;
 
 /// The sentence for a reason that no compiler of this repository gives: such as a flag of a caller's own table.

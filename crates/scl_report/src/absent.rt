@@ -1,6 +1,6 @@
 //! What a command line names that is not there.
 use scl_cl::{Compilation, CompilerArguments, Mem, path};
-use scl_describe::Tables;
+use scl_describe::Catalogue;
 use scl_explain::{Case, answer_case};
 use scl_load::Disk;
 use scl_shell::shown_briefly;
@@ -72,7 +72,7 @@ fn push_paths<D: Disk>(
 pub fn absent_text<D: Disk>(
     alloc: Global,
     disk: &D,
-    tables: &Tables<'_>,
+    catalogue: &Catalogue,
     case: &Case,
 ) -> Mem<String> {
     let mut text = String::new(alloc);
@@ -80,7 +80,7 @@ pub fn absent_text<D: Disk>(
         push_absent(alloc, &mut text, "the directory", &case.cwd)?;
         return Ok(text);
     }
-    match answer_case(alloc, disk, tables, case)? {
+    match answer_case(alloc, disk, catalogue, case)? {
         Ok(answered) => {
             if let CompilerArguments::Ok(compilation) = &answered.description.answer {
                 push_paths(alloc, &mut text, disk, case, compilation)?;

@@ -5,7 +5,7 @@ use crate::json::{entry_object, refused_object};
 use crate::settings::copied;
 use crate::tally::Tally;
 use scl_cl::{Compiler, Mem};
-use scl_describe::{Settings, Tables};
+use scl_describe::{Catalogue, Settings};
 use scl_explain::{Answered, Case, Counts, Ending, EntryKind, answer_case, load_error_text};
 use scl_load::Disk;
 use scl_text::command::copy_pairs;
@@ -17,7 +17,7 @@ use std::fmt::Display;
 #[derive(Drop)]
 pub struct Batch<'a> {
     /// What is known of the compilers.
-    pub tables: Tables<'a>,
+    pub catalogue: &'a Catalogue,
     /// Further names of launchers.
     pub launchers: Vec<Vec<u8>>,
     /// The compiler of each entry, where one was named.
@@ -121,7 +121,7 @@ impl<'a> Batch<'a> {
     where
         D::Error: Display,
     {
-        match answer_case(alloc, disk, &self.tables, case)? {
+        match answer_case(alloc, disk, self.catalogue, case)? {
             Ok(answered) => Ok(Ok(answered)),
             Err(error) => Ok(Err(load_error_text(alloc, &error)?)),
         }
@@ -246,7 +246,7 @@ impl<'a> Batch<'a> {
             Ok(String::new(alloc))
         } else {
             let keeps = self.keep.then_some(&tally.keeps);
-            summary(alloc, self.tables.catalogue, &tally.counts, keeps)
+            summary(alloc, self.catalogue, &tally.counts, keeps)
         }
     }
 }

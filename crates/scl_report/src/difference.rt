@@ -3,7 +3,7 @@ use crate::alone::{AT, Alone};
 use crate::digest::outcome_text;
 use crate::foreign::{ForeignDisk, is_windows};
 use scl_cl::Mem;
-use scl_describe::Tables;
+use scl_describe::Catalogue;
 use scl_explain::{Case, answer_case, has_key, has_key_of, load_error_text};
 use scl_load::Disk;
 use scl_shell::shown_words;
@@ -96,28 +96,28 @@ impl Compared {
     pub fn of_case<D: Disk>(
         alloc: Global,
         disk: &D,
-        tables: &Tables<'_>,
+        catalogue: &Catalogue,
         case: &Case,
     ) -> Mem<Result<Compared, String>>
     where
         D::Error: Display,
     {
         if is_windows(&case.cwd) {
-            return Compared::on_disk(alloc, &ForeignDisk, tables, case);
+            return Compared::on_disk(alloc, &ForeignDisk, catalogue, case);
         }
-        Compared::on_disk(alloc, disk, tables, case)
+        Compared::on_disk(alloc, disk, catalogue, case)
     }
 
     fn on_disk<D: Disk>(
         alloc: Global,
         disk: &D,
-        tables: &Tables<'_>,
+        catalogue: &Catalogue,
         case: &Case,
     ) -> Mem<Result<Compared, String>>
     where
         D::Error: Display,
     {
-        match answer_case(alloc, disk, tables, case)? {
+        match answer_case(alloc, disk, catalogue, case)? {
             Ok(answered) => Ok(Ok(Compared {
                 outcome: outcome_text(alloc, case, &answered)?,
                 rows: answered.description.rows(alloc)?,

@@ -1,19 +1,23 @@
 //! The flags of the compilers' tables, as a page for people and as JSON.
 use crate::document::{document_of, versioned};
 use crate::options::fate;
+use crate::said::{push_said, tell_said};
 use crate::table::Table;
 use scl_cl::args::{ArgDisposition, ArgRow};
 use scl_cl::{
     CommandLine, Compiler, Limits, Mem, TooManyWords, View, clang, diab, gcc, msvc, tasking_vx,
 };
-use scl_describe::{Destination, Row, rows_of};
+use scl_describe::{Catalogue, Destination, Row, rows_of};
 use scl_description::{RowList, tell_row};
-use scl_rows::NamedKind;
+use scl_kinds::NamedKind;
 use scl_shell::shown;
 use std::alloc::Global;
 
 /// The titles of the columns.
 static TITLES: [&str; 4] = ["flag", "value", "kind", "goes to"];
+
+/// The rows of which a document has members, also where there are none.
+static MEMBERS: [&str; 4] = ["version", "flags", "words", "catalogue"];
 
 /// Values by which it is tried where a flag goes: a name, a language, a choice.
 static VALUES: [&str; 3] = ["x", "c", "always"];
@@ -266,22 +270,6 @@ fn push_word(alloc: Global, text: &mut String, compiler: Compiler, word: &[u8]) 
     }
 }
 
-fn push_compiler(
-    alloc: Global,
-    text: &mut String,
-    compiler: Compiler,
-    words: &[Vec<u8>],
-) -> Mem<()> {
-    if words.is_empty() {
-        let flags = flags_of(alloc, compiler, None)?;
-        return push_table(alloc, text, compiler, &flags);
-    }
-    for word in words {
-        push_word(alloc, text, compiler, word)?;
-    }
-    Ok(())
-}
-
 /// The compilers whose tables are meant: those of one, or all.
 fn compilers_of(alloc: Global, compiler: Option<Compiler>) -> Mem<Vec<Compiler>> {
     let mut compilers = Vec::new(alloc);
@@ -293,12 +281,27 @@ fn compilers_of(alloc: Global, compiler: Option<Compiler>) -> Mem<Vec<Compiler>>
     Ok(compilers)
 }
 
-/// The flags of the tables, of one compiler or of all: each with how its value stands, its kind, and where it goes. Where there are
-/// words, only the flag of which each is; of a word that is of none, where it goes.
-pub fn flags_text(alloc: Global, compiler: Option<Compiler>, words: &[Vec<u8>]) -> Mem<String> {
+/// The flags of the tables, of one compiler or of all: each with how its value stands, its kind, and where it goes.
+pub fn flags_text(alloc: Global, compiler: Option<Compiler>) -> Mem<String> {
     let mut text = String::new(alloc);
     for compiler in &compilers_of(alloc, compiler)? {
-        push_compiler(alloc, &mut text, *compiler, words)?;
+        let flags = flags_of(alloc, *compiler, None)?;
+        push_table(alloc, &mut text, *compiler, &flags)?;
+    }
+    Ok(text)
+}
+
+/// Of each word of the compiler the flag of which it is, or where it goes if it is of none; and what the catalogue says of it.
+pub fn words_text(
+    alloc: Global,
+    catalogue: &Catalogue,
+    compiler: Compiler,
+    words: &[Vec<u8>],
+) -> Mem<String> {
+    let mut text = String::new(alloc);
+    for word in words {
+        push_word(alloc, &mut text, told_as(compiler), word)?;
+        push_said(alloc, &mut text, catalogue, compiler, word)?;
     }
     Ok(text)
 }
@@ -352,27 +355,27 @@ fn tell_given(alloc: Global, rows: &mut RowList, compiler: Compiler, word: &[u8]
     tell_flags(alloc, rows, compiler, &flags)
 }
 
-fn tell_compiler(
-    alloc: Global,
-    rows: &mut RowList,
-    compiler: Compiler,
-    words: &[Vec<u8>],
-) -> Mem<()> {
-    if words.is_empty() {
-        let flags = flags_of(alloc, compiler, None)?;
-        return tell_flags(alloc, rows, compiler, &flags);
-    }
-    for word in words {
-        tell_given(alloc, rows, compiler, word)?;
-    }
-    Ok(())
-}
-
-/// The same as a document: the rows `flags` and `words` (docs/PROTOCOL.md, JSON).
-pub fn flags_json(alloc: Global, compiler: Option<Compiler>, words: &[Vec<u8>]) -> Mem<Vec<u8>> {
+/// The same as `flags_text` as a document (docs/PROTOCOL.md, Documents).
+pub fn flags_json(alloc: Global, compiler: Option<Compiler>) -> Mem<Vec<u8>> {
     let mut rows = versioned(alloc)?;
     for compiler in &compilers_of(alloc, compiler)? {
-        tell_compiler(alloc, &mut rows, *compiler, words)?;
+        let flags = flags_of(alloc, *compiler, None)?;
+        tell_flags(alloc, &mut rows, *compiler, &flags)?;
     }
-    document_of(alloc, &["version", "flags", "words"], &rows)
+    document_of(alloc, &MEMBERS, &rows)
+}
+
+/// The same as `words_text` as such a document.
+pub fn words_json(
+    alloc: Global,
+    catalogue: &Catalogue,
+    compiler: Compiler,
+    words: &[Vec<u8>],
+) -> Mem<Vec<u8>> {
+    let mut rows = versioned(alloc)?;
+    for word in words {
+        tell_given(alloc, &mut rows, told_as(compiler), word)?;
+        tell_said(alloc, &mut rows, catalogue, compiler, word)?;
+    }
+    document_of(alloc, &MEMBERS, &rows)
 }

@@ -2,7 +2,7 @@
 use crate::keep::kept_texts;
 use crate::pages::Pages;
 use scl_cl::{CompilerArguments, Mem};
-use scl_describe::{Kept, Tables};
+use scl_describe::{Catalogue, Kept};
 use scl_explain::{Answered, Case, Ending, Form, Reply, answer_case, check_reply, unread};
 use scl_load::Disk;
 use std::alloc::Global;
@@ -38,14 +38,14 @@ fn kept_reply(alloc: Global, case: &Case, answered: &Answered<'_>, form: Form) -
 pub fn check_kept<D: Disk>(
     alloc: Global,
     disk: &D,
-    tables: &Tables<'_>,
+    catalogue: &Catalogue,
     case: &Case,
     form: Form,
 ) -> Mem<Reply>
 where
     D::Error: Display,
 {
-    match answer_case(alloc, disk, tables, case)? {
+    match answer_case(alloc, disk, catalogue, case)? {
         Ok(answered) => kept_reply(alloc, case, &answered, form),
         Err(error) => unread(alloc, &error),
     }

@@ -22,10 +22,10 @@ const COMPILERS: [Compiler; 6] = [
 ];
 
 fn push_explanation(text: &mut String, explanation: &Explanation) -> Mem<()> {
-    for reason in explanation.reasons {
+    let (sentence, reasons) = explanation;
+    for reason in *reasons {
         write!(text, "{reason}\n")?;
     }
-    let sentence = explanation.text;
     write!(text, "    {sentence}\n")
 }
 
@@ -94,8 +94,9 @@ pub fn reasons_text(alloc: Global, catalogue: &Catalogue) -> Mem<String> {
 
 /// Tells the rows of the reasons why a command line can't be cached: each reason, and its sentence.
 fn tell_explanation(rows: &mut RowList, explanation: &Explanation) -> Mem<()> {
-    for reason in explanation.reasons {
-        let fields = [reason.as_bytes(), explanation.text.as_bytes()];
+    let (sentence, reasons) = explanation;
+    for reason in *reasons {
+        let fields = [reason.as_bytes(), sentence.as_bytes()];
         tell_row(rows, "reasons", &fields)?;
     }
     Ok(())

@@ -1,9 +1,9 @@
 -- What may be answered to the bytes of a request, whose first line says its kind.
 use Rattle.std.specs.Prelude.{◌≡◌, ℕ, Bool, true, false, List, [], ◌∷◌, codes, drop, Result, if◌then◌else◌}
 use Rattle.std.specs.Str.{bytes_eq}
+use Rattle.scl_catalogue.specs.Form.{Catalogue}
 use Rattle.scl_description.specs.Lines.{lines_of}
 use Rattle.scl_describe.specs.Descriptions.{DescribesBytes}
-use Rattle.scl_hazards.specs.Hazards.{Tables}
 use Rattle.scl_requests.specs.Depfiles.{IsSaid}
 use Rattle.scl_requests.specs.Joining.{joined}
 use Rattle.scl_requests.specs.Making.{made_by}
@@ -34,15 +34,15 @@ abbrev pub kind_of : List (List ℕ) → Kind
 kind_of [] = kinds.Description
 kind_of (line ∷ lines) = kind_in line
 
-abbrev pub AnswersBy : Kind → Tables → List ℕ → Result (List ℕ) ℕ → Type 0
-AnswersBy kinds.Name tables bytes said = named (drop 1 (lines_of bytes)) ≡ said
-AnswersBy kinds.Join tables bytes said = joined (drop 1 (lines_of bytes)) ≡ said
-AnswersBy kinds.Map tables bytes said = mapped (drop 1 (lines_of bytes)) ≡ said
-AnswersBy kinds.Depfile tables bytes said = IsSaid (drop 1 (lines_of bytes)) said
-AnswersBy kinds.MadeBy tables bytes said = made_by (drop 1 (lines_of bytes)) ≡ said
-AnswersBy kinds.Description tables bytes said = DescribesBytes tables bytes said
+abbrev pub AnswersBy : Kind → Catalogue → List ℕ → Result (List ℕ) ℕ → Type 0
+AnswersBy kinds.Name catalogue bytes said = named (drop 1 (lines_of bytes)) ≡ said
+AnswersBy kinds.Join catalogue bytes said = joined (drop 1 (lines_of bytes)) ≡ said
+AnswersBy kinds.Map catalogue bytes said = mapped (drop 1 (lines_of bytes)) ≡ said
+AnswersBy kinds.Depfile catalogue bytes said = IsSaid (drop 1 (lines_of bytes)) said
+AnswersBy kinds.MadeBy catalogue bytes said = made_by (drop 1 (lines_of bytes)) ≡ said
+AnswersBy kinds.Description catalogue bytes said = DescribesBytes catalogue bytes said
 
 -- what a program's name means, the text of joined runs, a mapped text, a dependency file, which release answers, or a
 -- description
-abbrev pub AnswersBytes : Tables → List ℕ → Result (List ℕ) ℕ → Type 0
-AnswersBytes tables bytes said = AnswersBy (kind_of (lines_of bytes)) tables bytes said
+abbrev pub AnswersBytes : Catalogue → List ℕ → Result (List ℕ) ℕ → Type 0
+AnswersBytes catalogue bytes said = AnswersBy (kind_of (lines_of bytes)) catalogue bytes said

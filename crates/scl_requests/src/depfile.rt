@@ -2,7 +2,6 @@
 ghost use Rattle.std.specs.Prelude.{◌≡◌, IfOk, MatchResult, Ok, Err};
 ghost use Rattle.std.specs.Option.{option_map};
 ghost use Rattle.scl_cl.specs.Drafts.{asked_by};
-ghost use Rattle.scl_describe.specs.Descriptions.{too_many_entries};
 ghost use Rattle.scl_description.specs.Lines.{lines_of};
 ghost use Rattle.scl_description.specs.Rows.{entries_text};
 ghost use Rattle.scl_reader.specs.CommandLines.{asked_for};
@@ -12,6 +11,7 @@ ghost use Rattle.scl_text.specs.Records.{parsed_of};
 ghost use Rattle.scl_requests.specs.Depfiles.{IsDepfileSaid, IsReadingSaid, IsRequestSaid, IsSaid, is_clang_cl, made_entries, nothing_entries, shown_by, shown_cut, shown_in, unread_entries};
 
 use scl_cl::{Compiler, Mem, NoLines, Request, read_lines};
+use scl_describe::too_many_words;
 use scl_description::{cut_at, next_line, push_word, push_yes, read_field};
 use scl_msvc::msvc::{DepfileError, DepfileText, depfile_text};
 use scl_reader::{Limits, ParsedArguments, Reading};
@@ -83,16 +83,6 @@ fn unread_text(alloc: Global) -> Mem<Vec<u8>>
 {
     let mut text = Vec::new(alloc);
     push_yes(&mut text, "not-utf-8", true)?;
-    push_word(&mut text, "version", b"1")?;
-    Ok(text)
-}
-
-/// The rows where a command line has too many words.
-fn too_many_words(alloc: Global) -> Mem<Vec<u8>>
-    ensures { IfOk result (λ text. text.items ≡ entries_text too_many_entries) }
-{
-    let mut text = Vec::new(alloc);
-    push_yes(&mut text, "too-many-words", true)?;
     push_word(&mut text, "version", b"1")?;
     Ok(text)
 }

@@ -9,7 +9,7 @@ use crate::making::made_by;
 use crate::mapping::mapped;
 use crate::naming::named;
 use scl_cl::{Mem, Service};
-use scl_describe::{Descriptions, Tables};
+use scl_describe::{Catalogue, Descriptions};
 use scl_description::next_line;
 use std::alloc::Global;
 
@@ -82,18 +82,18 @@ fn after_first(bytes: &[u8]) -> &[u8]
 
 /// Answers a request by what its first line asks: what the name of a program means (`name`), the text of several runs of the
 /// preprocessor (`join`), a preprocessed text told by base directories (`map`), a dependency file (`depfile`), which
-/// release answers (`made-by`), and else a description, with what tables know of compilers (docs/PROTOCOL.md, A request).
+/// release answers (`made-by`), and else a description, with what a catalogue knows of compilers (docs/PROTOCOL.md, A request).
 #[derive(Debug, Clone, Copy)]
 pub struct Requests<'a> {
     /// What is known of compilers.
-    pub tables: Tables<'a>,
+    pub catalogue: &'a Catalogue,
 }
 
 impl<'a> Service for Requests<'a> {
-    ghost use Rattle.scl_hazards.specs.Hazards.{tables_of};
+    ghost use Rattle.scl_catalogue.specs.Views.{catalogue_of};
     ghost use Rattle.scl_requests.specs.Requests.{AnswersBytes};
 
-    ghost answers = { λ service bytes said. AnswersBytes (tables_of service.tables) bytes said };
+    ghost answers = { λ service bytes said. AnswersBytes (catalogue_of service.catalogue.now) bytes said };
 
     #[tactic(auto, using(crate::proofs::RequestLaws::name_said, crate::proofs::RequestLaws::join_said, crate::proofs::RequestLaws::map_said, crate::proofs::RequestLaws::depfile_said, crate::proofs::RequestLaws::made_by_said, crate::proofs::RequestLaws::description_said))]
     fn answer(&self, alloc: Global, bytes: Vec<u8>) -> Mem<Result<Vec<u8>, u64>> {
@@ -105,7 +105,7 @@ impl<'a> Service for Requests<'a> {
             Kind::MadeBy => Ok(made_by(alloc, after_first(&bytes))?),
             Kind::Description => {
                 let descriptions = Descriptions {
-                    tables: self.tables,
+                    catalogue: self.catalogue,
                 };
                 descriptions.answer(alloc, bytes)
             }

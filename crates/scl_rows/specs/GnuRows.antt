@@ -21,7 +21,7 @@ use Rattle.scl_text.specs.declared.records.CCompilerKind.{CCompilerKind}
 use Rattle.scl_values.specs.Cuts.{mark}
 use Rattle.scl_values.specs.Row.{Row}
 use Rattle.scl_values.specs.Seen.{Seen, Raw, Unknown, Known}
-use Rattle.scl_rows.specs.KindNames.{gnu_kind_name}
+use Rattle.scl_kinds.specs.KindNames.{gnu_kind_name}
 use Rattle.scl_rows.specs.Lines.{Ways, line_rows}
 use Rattle.scl_rows.specs.Rows.{Told, Tells, words_given}
 use Rattle.scl_rows.specs.contracts.destination.DestinationPartialEq.TheImpl.{ghosts}

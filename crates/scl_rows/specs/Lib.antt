@@ -1,5 +1,4 @@
 pub mod GnuRows
-pub mod KindNames
 pub mod Lines
 pub mod MsvcRows
 pub mod Names

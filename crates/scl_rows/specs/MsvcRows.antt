@@ -14,7 +14,7 @@ use Rattle.scl_msvc_reading.specs.declared.msvc.place.Place.{Place}
 use Rattle.scl_msvc_reading.specs.declared.msvc.place.Place.TheVariants as places
 use Rattle.scl_values.specs.Seen.{Seen, Raw, Unknown, Known}
 use Rattle.scl_rows.specs.GnuRows.{raw_goes}
-use Rattle.scl_rows.specs.KindNames.{gnu_kind_name, msvc_kind_name}
+use Rattle.scl_kinds.specs.KindNames.{gnu_kind_name, msvc_kind_name}
 use Rattle.scl_rows.specs.Lines.{Ways, line_rows}
 use Rattle.scl_rows.specs.Rows.{Told, Tells, words_given}
 use Rattle.scl_rows.specs.declared.destination.Destination.{Destination}

@@ -8,11 +8,11 @@ ghost use Rattle.scl_rows.specs.GnuRows.{row_added, rows_added, rows_depfile, ro
 ghost use Rattle.scl_rows.specs.Rows.{told};
 
 use crate::destination::Destination;
-use crate::kind_names::NamedKind;
 use crate::origin::Origin;
 use crate::row::{Row, append_rows};
 use scl_args::{Mem, OfKinds, Options};
 use scl_gnu_reading::gcc::{ArgData, Kind, needs_target};
+use scl_kinds::NamedKind;
 use scl_text::language::Language;
 use scl_text::outputs::output_path;
 use scl_text::path::with_extension;

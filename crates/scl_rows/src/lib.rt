@@ -4,7 +4,6 @@
 mod added;
 mod destination;
 mod gnu;
-mod kind_names;
 pub mod laws;
 mod line;
 mod msvc;
@@ -15,7 +14,6 @@ mod ways;
 
 pub use destination::Destination;
 pub use gnu::gnu_rows;
-pub use kind_names::NamedKind;
 pub use msvc::msvc_rows;
 pub use origin::Origin;
 pub use row::{Row, refused_at};

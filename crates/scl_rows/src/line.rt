@@ -6,11 +6,11 @@ ghost use Rattle.scl_rows.specs.Lines.{line_rows, row_dangling, row_end};
 ghost use Rattle.scl_rows.specs.Rows.{told};
 
 use crate::destination::Destination;
-use crate::kind_names::NamedKind;
 use crate::origin::Origin;
 use crate::row::{Ahead, Row, first_row};
 use crate::ways::Ways;
 use scl_args::{Mem, ReadArg};
+use scl_kinds::NamedKind;
 use scl_text::refusal::argument_parse;
 use scl_text::{Dangling, ReadLine, word_count};
 use std::alloc::Global;

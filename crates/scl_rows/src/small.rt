@@ -4,12 +4,12 @@ ghost use Rattle.scl_rows.specs.Rows.{told};
 ghost use Rattle.scl_rows.specs.SmallRows.{destination_at, small_rows};
 
 use crate::destination::Destination;
-use crate::kind_names::NamedKind;
 use crate::line::push_line;
 use crate::origin::Origin;
 use crate::row::Row;
 use crate::ways::Ways;
 use scl_args::{Argument, Mem, NormalizedDisposition, ShortFlagsJoined, Sides};
+use scl_kinds::NamedKind;
 use scl_small::{Place, Placed, Rules, SmallReading, place_of};
 use std::alloc::Global;
 

@@ -7,9 +7,10 @@ use Rattle.std.specs.Option.{option_map}
 use Rattle.std.specs.Str.{bytes_eq}
 use Rattle.scl_base_dirs.specs.Cuts.{has_none}
 use Rattle.scl_catalogue.specs.Form.{Pattern, Text, Demand, Marked, Value, Part, Test, Group, Relation, Condition, Case, Entry}
-use Rattle.scl_catalogue.specs.Found.{compared, fits, in_group, is_met, is_of, name_by, one_fits, passes, serves, test_passes}
+use Rattle.scl_catalogue.specs.Found.{OptionSeen, compared, fits, in_group, is_met, is_of, name_by, one_fits, passes, serves, test_passes}
 use Rattle.scl_catalogue.specs.Keyed.{first_group}
 use Rattle.scl_catalogue.specs.Lookup.{Lexicon, Said, naming_of, word_seen}
+use Rattle.scl_catalogue.specs.Numbered.{numbers_in}
 use Rattle.scl_catalogue.specs.Speaking.{asks_for, begins_with, case_speaks_of, relation_at, speaks_of}
 use Rattle.scl_catalogue.specs.declared.case.Compiler.{Compiler}
 use Rattle.scl_catalogue.specs.declared.case.Version.{Version}
@@ -21,7 +22,8 @@ use Rattle.scl_catalogue.specs.declared.test.Class.{Class}
 use Rattle.scl_catalogue.specs.declared.test.Class.TheVariants as class
 use Rattle.scl_catalogue.specs.declared.text.How.{How}
 use Rattle.scl_catalogue.specs.declared.text.How.TheVariants as how
-use Rattle.scl_shared_key.specs.Fronts.{asks_by_fronts, is_case_of_fronts, is_condition_of_fronts, is_from_front, is_group_of_fronts, is_pattern_of_fronts, is_said_by_fronts, is_test_of_fronts, is_text_of_fronts}
+use Rattle.scl_catalogue.proofs.NumberLemmas.{pass_over_none}
+use Rattle.scl_shared_key.specs.Fronts.{AreNumbered, asks_by_fronts, is_case_of_fronts, is_condition_of_fronts, is_from_front, is_group_of_fronts, is_pattern_of_fronts, is_said_by_fronts, is_test_of_fronts, is_text_of_fronts}
 use Rattle.scl_shared_key.specs.Laws.{FrontsTellNamings}
 
 -- ---- tests that are alike
@@ -146,22 +148,38 @@ case_alike compiler version front one other c h =
     (any_alike is_condition_of_fronts (asks_for level.Outer (word_seen (at_front front one))) (asks_for level.Outer (word_seen (at_front front other)))
     (condition_alike front one other) c.conditions h)
 
-entry_alike : (compiler : Compiler) (version : Option Version) (front one other : List ℕ) (e : Entry) → list_all is_case_of_fronts e.cases ≡ true
-    → speaks_of compiler version level.Outer (word_seen (at_front front one)) e ≡ speaks_of compiler version level.Outer (word_seen (at_front front other)) e
+-- an entry with the numbers of its cases speaks of what they speak of
+by_cases : (compiler : Compiler) (version : Option Version) (o : OptionSeen) (e : Entry) → e.numbers ≡ numbers_in e.cases
+    → speaks_of compiler version level.Outer o e ≡ list_any (case_speaks_of compiler version level.Outer o) e.cases
 unfolding speaks_of
-entry_alike compiler version front one other e h =
-    any_alike is_case_of_fronts (case_speaks_of compiler version level.Outer (word_seen (at_front front one)))
+by_cases compiler version o e n = rw n (pass_over_none e.tells e.name e.says e.cases compiler version level.Outer o)
+
+entry_alike : (compiler : Compiler) (version : Option Version) (front one other : List ℕ) (e : Entry) → list_all is_case_of_fronts e.cases ≡ true → e.numbers ≡ numbers_in e.cases
+    → speaks_of compiler version level.Outer (word_seen (at_front front one)) e ≡ speaks_of compiler version level.Outer (word_seen (at_front front other)) e
+entry_alike compiler version front one other e h n =
+    by_cases compiler version (word_seen (at_front front one)) e n
+    ∙ any_alike is_case_of_fronts (case_speaks_of compiler version level.Outer (word_seen (at_front front one)))
     (case_speaks_of compiler version level.Outer (word_seen (at_front front other))) (case_alike compiler version front one other) e.cases h
+    ∙ sym (by_cases compiler version (word_seen (at_front front other)) e n)
 
 -- whether the entry speaks of the word
 abbrev speaks : Lexicon → List ℕ → Said Naming → Bool
 speaks l word s = speaks_of l.compiler l.version level.Outer (word_seen word) s.entry
 
-said_alike : (l : Lexicon) (front one other : List ℕ) (s : Said Naming) → is_said_by_fronts s ≡ true → speaks l (at_front front one) s ≡ speaks l (at_front front other) s
-said_alike l front one other s h = entry_alike l.compiler l.version front one other s.entry h
+said_alike : (l : Lexicon) (front one other : List ℕ) (s : Said Naming) → is_said_by_fronts s ≡ true → s.entry.numbers ≡ numbers_in s.entry.cases
+    → speaks l (at_front front one) s ≡ speaks l (at_front front other) s
+said_alike l front one other s h n = entry_alike l.compiler l.version front one other s.entry h n
+
+found_alike : (l : Lexicon) (front one other : List ℕ) (ss : List (Said Naming)) → list_all is_said_by_fronts ss ≡ true → AreNumbered ss
+    → find (speaks l (at_front front one)) ss ≡ find (speaks l (at_front front other)) ss
+found_alike l front one other [] h n = refl
+found_alike l front one other (s ∷ ss) h n =
+    let both = and_parts (is_said_by_fronts s) (list_all is_said_by_fronts ss) h in
+    ap (λ b. cond b (Some s) (find (speaks l (at_front front one)) ss)) (said_alike l front one other s both.0 n.0)
+    ∙ ap (λ o. cond (speaks l (at_front front other) s) (Some s) o) (found_alike l front one other ss both.1 n.1)
 
 pub fronts_tell_namings : FrontsTellNamings
 unfolding naming_of
 fronts_tell_namings = λ l front one other h.
     ap (λ (found : Option (Said Naming)). unwrap_or (option_map (λ s. s.says) found) naming.Anything)
-    (find_alike is_said_by_fronts (speaks l (at_front front one)) (speaks l (at_front front other)) (said_alike l front one other) l.names h)
+    (found_alike l front one other l.names h.0 h.1)

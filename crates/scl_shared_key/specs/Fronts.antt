@@ -1,11 +1,12 @@
 -- When what stands before the first `/` of a word tells what it makes the object name.
-use Rattle.std.specs.Prelude.{◌≡◌, Bool, true, false, not, ◌&&◌, ◌||◌, Option, None, Some}
+use Rattle.std.specs.Prelude.{◌≡◌, Bool, true, false, not, ◌&&◌, ◌||◌, List, [], ◌∷◌, Option, None, Some}
 use Rattle.std.specs.List.{list_all}
 use Rattle.scl_base_dirs.specs.Cuts.{has_none}
 use Rattle.scl_catalogue.specs.Form.{Pattern, Text, Test, Group, Relation, Condition, Case}
 use Rattle.scl_catalogue.specs.Found.{is_of}
 use Rattle.scl_catalogue.specs.Keyed.{first_group}
 use Rattle.scl_catalogue.specs.Lookup.{Lexicon, Said}
+use Rattle.scl_catalogue.specs.Numbered.{numbers_in}
 use Rattle.scl_catalogue.specs.Speaking.{relation_at}
 use Rattle.scl_catalogue.specs.declared.entry.Naming.{Naming}
 use Rattle.scl_catalogue.specs.declared.seen.Standing.TheVariants as standing
@@ -47,6 +48,11 @@ is_case_of_fronts c = list_all is_condition_of_fronts c.conditions
 abbrev pub is_said_by_fronts : Said Naming → Bool
 is_said_by_fronts s = list_all is_case_of_fronts s.entry.cases
 
+-- the numbers of each entry are those of its cases, as they are of an entry that is read
+abbrev pub AreNumbered : List (Said Naming) → Type 0
+AreNumbered [] = Unit {0}
+AreNumbered (s ∷ ss) = (s.entry.numbers ≡ numbers_in s.entry.cases) × AreNumbered ss
+
 -- Where it is said what words make the object name, it is said of their beginnings or whole texts, without a `/`.
 abbrev pub NamesHaveNoSlash : Lexicon → Type 0
-NamesHaveNoSlash l = list_all is_said_by_fronts l.names ≡ true
+NamesHaveNoSlash l = (list_all is_said_by_fronts l.names ≡ true) × AreNumbered l.names

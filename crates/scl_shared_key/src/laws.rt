@@ -14,7 +14,7 @@ pub fn of_shared_keys()
 {}
 
 /// The law of words that make an object name something: what stands before the first `/` of a word tells what, if the names in
-/// the entries that say so are beginnings or whole texts without a `/`.
+/// the entries that say so are beginnings or whole texts without a `/`, and each has the numbers of its cases.
 #[tactic(auto, using(crate::proofs::FrontLaws::fronts_tell_namings))]
 pub fn of_namings()
     ensures { FrontsTellNamings }

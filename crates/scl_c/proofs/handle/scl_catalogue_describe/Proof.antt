@@ -6,7 +6,6 @@ use Rattle.std.proofs.alloc.Global.TheLaws as heap_laws
 use Rattle.std.specs.contracts.impls.GlobalAllocator.TheImpl.{ghosts, dict}
 use Rattle.scl_catalogue.specs.Views.{catalogue_of}
 use Rattle.scl_requests.specs.Requests.{AnswersBytes}
-use Rattle.scl_c.specs.Catalogues.{tables_with}
 use Rattle.scl_c.specs.Described.{AsksReadAgain, IsDescribed}
 use Rattle.scl_c.specs.Memory.{lease}
 use Rattle.scl_c.proofs.AgainLemmas.{asks_again}
@@ -74,7 +73,7 @@ scl_catalogue_describe_spec 𝓤 𝓛 𝓜 𝓡 wired =
     nothing ! $ move ! (1 ∷ 0 ∷ []) $ use2 𝓛 (raw (G.pre x)) (id⊢ 𝓤 _) $
     calls_at ! (framed 𝓤 𝓛.H 𝓜 𝓣) G (met 𝓤 𝓛 𝓜 𝓡 (code.calls-scl_c::described::describe_by 𝓡.env wired)) x
     (and_then ! (get ! refl) (and_then ! (get ! refl) (and_then ! (get ! refl) (and_then ! (get ! refl) (and_then ! (get ! refl) (no_more !)))))) (λ u.
-    let Said : (n : ℤ) → Lasts g.ended x.0.0 x.0.3 → Type 0 = λ n ls. IsDescribed (AnswersBytes (tables_with (catalogue_of v)) request.now) request.now room.now ls.1.1.1.0 ls.1.1.1.1.0 n in
+    let Said : (n : ℤ) → Lasts g.ended x.0.0 x.0.3 → Type 0 = λ n ls. IsDescribed (AnswersBytes (catalogue_of v) request.now) request.now room.now ls.1.1.1.0 ls.1.1.1.1.0 n in
     use1 𝓛 (later (some (λ (n : ℤ). ((‵ (flft α s) ⊛ ‵ (flft κ₁ q₁) ⊛ ‵ (flft κ₂ q₂) ⊛ ‵ (flft κ₃ q₃) ⊛ ‵ ftrue) ⊛ ‵ (i32.own_val n (u ∷ []))) ⊛
     some (λ (ls : Lasts g.ended x.0.0 x.0.3). ‵ (lasts g.ended x.0.0 x.0.3 ls) ⊛ raw (fact 𝓤 (Said n ls)))))) (id⊢ 𝓤 _) $
     await ! tt $ pick ! (λ n. split ! $ move ! (1 ∷ []) $ pick ! (λ ls. split ! $
@@ -85,7 +84,7 @@ scl_catalogue_describe_spec 𝓤 𝓛 𝓜 𝓡 wired =
     peeks ! i32 (Is i32) (shows 𝓛 i32) n (u ∷ []) (λ is. lands_as ! refl refl ((sint_Lawful 𝓛 w32).typed n _ is).0 $
     returns ! (look_at ! 0 refl) $ free_all ! refl $ rewrite ! 7 (λ (r' : Ptr). ‵ (lent_at R r' v α)) (sym e) refl $
     let Again : Type 0 = n ≡ pos 0 → AsksReadAgain request.now in
-    use0 𝓛 (raw (fact 𝓤 Again)) (fact_i 𝓤 Again (emp 𝓤) (asks_again (tables_with (catalogue_of v)) request.now room.now ls.1.1.1.0 ls.1.1.1.1.0 n told)) $ use0 𝓛 (raw (fact 𝓤 (Said n ls))) (fact_i 𝓤 (Said n ls) (emp 𝓤) told) $ join ! $
+    use0 𝓛 (raw (fact 𝓤 Again)) (fact_i 𝓤 Again (emp 𝓤) (asks_again (catalogue_of v) request.now room.now ls.1.1.1.0 ls.1.1.1.1.0 n told)) $ use0 𝓛 (raw (fact 𝓤 (Said n ls))) (fact_i 𝓤 (Said n ls) (emp 𝓤) told) $ join ! $
     move ! (8 ∷ 4 ∷ []) $ fjoin ! $ join ! $ move ! (1 ∷ []) $
     -- [the status; the `ensures`; the tokens of the room, of what is wanted, of the request; what is wanted; the room]
     nothing ! $ move ! (6 ∷ 0 ∷ []) $ join ! $ move ! (6 ∷ 0 ∷ []) $ join ! $ nothing ! $ join ! $ nothing ! $ join ! $ nothing ! $ join ! $

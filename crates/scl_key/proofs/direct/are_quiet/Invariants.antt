@@ -2,7 +2,7 @@ use Rattle.std.proofs.Common.{◌≡◌, drop}
 use Rattle.std.specs.List.{list_all}
 use Rattle.scl_catalogue.specs.Views.{lexicon_of}
 use Rattle.scl_key.specs.Directs.{is_quiet}
-use Rattle.scl_key.specs.JudgedViews.{all_judged}
+use Rattle.scl_key.specs.KnownViews.{all_judged}
 use Rattle.scl_key.proofs.direct.are_quiet.Given as goal
 
 abbrev pub invariant-loop-one : goal.invariant-loop-one

@@ -1,5 +1,5 @@
 use Rattle.std.proofs.Common.{◌≡◌, take, map}
-use Rattle.scl_key.specs.GivenViews.{all_given}
+use Rattle.scl_key.specs.KnownViews.{all_given}
 use Rattle.scl_key.specs.Given.{values_among}
 use Rattle.scl_key.proofs.given.values_among.Given as goal
 

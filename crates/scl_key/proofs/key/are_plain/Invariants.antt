@@ -1,7 +1,7 @@
 use Rattle.std.proofs.Common.{◌≡◌, drop}
 use Rattle.std.specs.List.{list_all}
 use Rattle.scl_key.specs.Effects.{is_plain}
-use Rattle.scl_key.specs.JudgedViews.{all_judged}
+use Rattle.scl_key.specs.KnownViews.{all_judged}
 use Rattle.scl_key.proofs.key.are_plain.Given as goal
 
 abbrev pub invariant-loop-one : goal.invariant-loop-one

@@ -1,6 +1,6 @@
 use Rattle.std.proofs.Common.{◌≡◌, ◌++◌, take}
 use Rattle.std.specs.List.{flat_map}
-use Rattle.scl_key.specs.JudgedViews.{all_judged}
+use Rattle.scl_key.specs.KnownViews.{all_judged}
 use Rattle.scl_key.specs.Keys.{no_key_by}
 use Rattle.scl_key.specs.Views.{no_keys_of}
 use Rattle.scl_key.proofs.no_key.push_by_words.Given as goal

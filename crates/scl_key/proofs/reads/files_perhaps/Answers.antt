@@ -8,8 +8,8 @@ five p0 p1 p2 p3 p4 p5 a b c d e h0 h1 h2 h3 h4 h5 = rw (h5, h4, h3, h2, h1, h0)
 pub returns : goal.returns
 returns c =
     five _ _ _ _ _ _ _ _ _ _ _ (ap words_of c.new-paths.ensures.items)
-    (rw (c.deref.ensures.value, c.requires.common) at c.in_ok-push_paths.ensures)
-    (rw (c.deref-3.ensures.value, c.in_ok-unhashed.ensures, c.deref-2.ensures.value) at c.in_ok-push_paths-2.ensures)
-    (rw (c.deref-4.ensures.value, c.requires.given) at c.in_ok-push_macro_files.ensures)
-    (rw (c.deref-5.ensures.value, c.requires.common) at c.in_ok-push_profiles.ensures)
-    (rw (c.deref-6.ensures.value, c.requires.given) at c.in_ok-push_precompiled_headers.ensures)
+    (rw c.deref.ensures.value at c.in_ok-push_paths.ensures)
+    (rw c.deref-2.ensures.value at c.in_ok-push_paths-2.ensures)
+    c.in_ok-push_macro_files.ensures
+    (rw c.deref-3.ensures.value at c.in_ok-push_profiles.ensures)
+    c.in_ok-push_precompiled_headers.ensures

@@ -2,7 +2,7 @@ use Rattle.std.proofs.Common.{◌≡◌, ◌++◌, take}
 use Rattle.std.specs.List.{flat_map}
 use Rattle.std.specs.Option.{option_copied}
 use Rattle.scl_values.specs.Words.{words_of}
-use Rattle.scl_key.specs.JudgedViews.{all_judged}
+use Rattle.scl_key.specs.KnownViews.{all_judged}
 use Rattle.scl_key.specs.Reads.{profile_by}
 use Rattle.scl_key.proofs.reads.push_profiles_of.Given as goal
 
