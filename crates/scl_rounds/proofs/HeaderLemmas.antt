@@ -14,10 +14,10 @@ named_short what [] h = refl
 named_short what (it ∷ []) h = refl
 named_short what (it ∷ (name ∷ searched)) h = absurd (omega (arith, h))
 
-pub places_are : (key : Key) (m : Machine) (searched them within names sources : List (List ℕ)) → them ≡ headers key m searched → within ≡ folders m them searched
+pub places_are : (key : Key) (m : Machine) (searched them within names sources : List (List ℕ)) → them ≡ headers key m searched → within ≡ folders key m them searched
     → names ≡ each_once (flat_map included_as them) → sources ≡ them ++ marked key m → places_by key within names sources ≡ places key m searched
 places_are key m searched them within names sources one two three four =
     ap (λ it. places_by key it names sources) two
-    ∙ ap (λ it. places_by key (folders m them searched) it sources) three
-    ∙ ap (places_by key (folders m them searched) (each_once (flat_map included_as them))) four
-    ∙ ap (λ it. places_by key (folders m it searched) (each_once (flat_map included_as it)) (it ++ marked key m)) one
+    ∙ ap (λ it. places_by key (folders key m them searched) it sources) three
+    ∙ ap (places_by key (folders key m them searched) (each_once (flat_map included_as them))) four
+    ∙ ap (λ it. places_by key (folders key m it searched) (each_once (flat_map included_as it)) (it ++ marked key m)) one

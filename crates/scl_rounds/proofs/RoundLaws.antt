@@ -29,6 +29,7 @@ use Rattle.scl_rounds.specs.Plans.{asked_plan, called_in, cleaned, files_in_plan
 use Rattle.scl_patterns.specs.Refusals.{is_refused}
 use Rattle.scl_rounds.specs.Rounds.{asked_run, behind_said, called, called_by_plan, detail_asked, detail_by, details_asked, fifth, fifth_asked, first, first_asked, fourth, loaded_by, needed, needed_asked, needed_by, needed_if, rounds, second, sixth, stage, third, RoundsGiveRows}
 use Rattle.scl_rounds.specs.Runs.{fails, has_failed, loaded_in, may_fail, names_sources, no_text, outputs_told, run_told}
+use Rattle.scl_rounds.specs.Searches.{all_folders_on, asked_search, folders_on, folders_written}
 use Rattle.scl_rounds.specs.Shown.{all_sources, content_at, each_once, input_of, marked, marked_in, searched, shown, shown_by, text_on, unmarked}
 use Rattle.scl_rounds.specs.Vain.{forbids, hides, hides_by, hides_else, is_forbidden, is_hidden, is_hidden_else}
 
@@ -85,15 +86,16 @@ all_one w m asks one other (first ∷ list) each h =
     let it = agree_both w m (asks first) (flat_map asks list) h in
     ap (λ qs. qs ++ flat_map one list) (each first it.0) ∙ ap (λ qs. other first ++ qs) (all_one w m asks one other list each it.1)
 
-all_by_three : (w m : Machine) (asks others more : Part → List Question) (one other : Part → List Question) (parts : List Part)
-    → ((part : Part) → Agree w m (asks part) → Agree w m (others part) → Agree w m (more part) → one part ≡ other part)
-    → Agree w m (flat_map asks parts) → Agree w m (flat_map others parts) → Agree w m (flat_map more parts) → flat_map one parts ≡ flat_map other parts
-all_by_three w m asks others more one other [] each h k l = refl
-all_by_three w m asks others more one other (part ∷ parts) each h k l =
+all_by_four : (w m : Machine) (asks others more last : Part → List Question) (one other : Part → List Question) (parts : List Part)
+    → ((part : Part) → Agree w m (asks part) → Agree w m (others part) → Agree w m (more part) → Agree w m (last part) → one part ≡ other part)
+    → Agree w m (flat_map asks parts) → Agree w m (flat_map others parts) → Agree w m (flat_map more parts) → Agree w m (flat_map last parts) → flat_map one parts ≡ flat_map other parts
+all_by_four w m asks others more last one other [] each h k l n = refl
+all_by_four w m asks others more last one other (part ∷ parts) each h k l n =
     let a = agree_both w m (asks part) (flat_map asks parts) h in
     let b = agree_both w m (others part) (flat_map others parts) k in
     let c = agree_both w m (more part) (flat_map more parts) l in
-    ap (λ qs. qs ++ flat_map one parts) (each part a.0 b.0 c.0) ∙ ap (λ qs. other part ++ qs) (all_by_three w m asks others more one other parts each a.1 b.1 c.1)
+    let d = agree_both w m (last part) (flat_map last parts) n in
+    ap (λ qs. qs ++ flat_map one parts) (each part a.0 b.0 c.0 d.0) ∙ ap (λ qs. other part ++ qs) (all_by_four w m asks others more last one other parts each a.1 b.1 c.1 d.1)
 
 each_one : (one other : Part → List Question) (parts : List Part) → ((part : Part) → one part ≡ other part) → flat_map one parts ≡ flat_map other parts
 each_one one other [] each = refl
@@ -237,18 +239,25 @@ folders_by_one w m [] h = refl
 folders_by_one w m (name ∷ variables) h =
     ap (λ value. folders_in value ++ folders_by w variables) h.0 ∙ ap (λ folders. folders_in (m (env name)) ++ folders) (folders_by_one w m variables h.1)
 
--- the places, by the texts of the runs and by the folders that variables name
-abbrev places_from : Key → (texts folders searched : List (List ℕ)) → List (List ℕ)
-places_from key texts folders searched =
+searches_one : (w m : Machine) (searches : List (List (List ℕ))) → Agree w m (map asked_search searches) → all_folders_on w searches ≡ all_folders_on m searches
+searches_one w m [] h = refl
+searches_one w m (words ∷ searches) h =
+    ap (λ it. folders_written (unfailed it) ++ all_folders_on w searches) h.0 ∙ ap (λ folders. folders_on m words ++ folders) (searches_one w m searches h.1)
+
+-- the places, by the texts of the runs and by the folders that variables and the compiler name
+abbrev places_from : Key → (texts folders others searched : List (List ℕ)) → List (List ℕ)
+places_from key texts folders others searched =
     let them = flat_map leading_in texts ++ named (codes "header") searched in
     places_by key
-    (each_once (named (codes "folder") searched ++ map folder_of them ++ map folder_of (named (codes "beside") searched) ++ folders))
+    (each_once (named (codes "folder") searched ++ map folder_of them ++ map folder_of (named (codes "beside") searched) ++ folders ++ others))
     (each_once (flat_map included_as them)) (them ++ each_once (flat_map marked_in texts))
 
-places_one : (key : Key) (w m : Machine) (searched : List (List ℕ)) → shown key w ≡ shown key m → Agree w m (map env (named (codes "variable") searched)) → places key w searched ≡ places key m searched
-places_one key w m searched e h =
-    ap (λ texts. places_from key texts (folders_by w (named (codes "variable") searched)) searched) e
-    ∙ ap (λ folders. places_from key (shown key m) folders searched) (folders_by_one w m (named (codes "variable") searched) h)
+places_one : (key : Key) (w m : Machine) (searched : List (List ℕ)) → shown key w ≡ shown key m → Agree w m (map env (named (codes "variable") searched)) → Agree w m (map asked_search key.searches)
+    → places key w searched ≡ places key m searched
+places_one key w m searched e h k =
+    ap (λ texts. places_from key texts (folders_by w (named (codes "variable") searched)) (all_folders_on w key.searches) searched) e
+    ∙ ap (λ folders. places_from key (shown key m) folders (all_folders_on w key.searches) searched) (folders_by_one w m (named (codes "variable") searched) h)
+    ∙ ap (λ others. places_from key (shown key m) (folders_by m (named (codes "variable") searched)) others searched) (searches_one w m key.searches k)
 
 -- ---- what the runs name
 
@@ -270,7 +279,7 @@ needed_one key w m e (plan words) own h k = ap (λ it. needed_by key (unfailed i
 needed_one key w m e (asked ask name) own h k = needed_asked_one key w m e ask name
 needed_one key w m e (run words) own h k = ap loaded_by own
 needed_one key w m e (run_else words) own h k = ap loaded_by own
-needed_one key w m e (pch searched) own h k = places_one key w m searched e h
+needed_one key w m e (pch searched) own h k = places_one key w m searched e h k
 needed_one key w m e sources own h k = ap (λ texts. each_once (flat_map marked_in texts ++ filter_map input_of key.parts)) e
 needed_one key w m e times own h k = ap (λ texts. each_once (flat_map marked_in texts)) e
 
@@ -311,18 +320,18 @@ fifth_asked_one key w m e asks.RefuseIfShown name h =
     ap (λ texts. details_asked details.Content w (if length (each_once (flat_map marked_in texts)) == 0 then filter_map input_of key.parts else [])) e
     ∙ details_one details.Content w m (unmarked key m) h
 
-fifth_one : (key : Key) (w m : Machine) → shown key w ≡ shown key m → (part : Part) → Agree w m (first key part) → Agree w m (fourth key m part) → fifth key w part ≡ fifth key m part
-fifth_one key w m e (is row) h n = refl
-fifth_one key w m e (output made) h n = refl
-fifth_one key w m e directory h n = refl
-fifth_one key w m e compiler h n = refl
-fifth_one key w m e (plan words) h n = refl
-fifth_one key w m e (asked ask name) h n = fifth_asked_one key w m e ask name n
-fifth_one key w m e (run words) h n = refl
-fifth_one key w m e (run_else words) h n = refl
-fifth_one key w m e (pch searched) h n = ap (details_asked details.Names w) (places_one key w m searched e h) ∙ details_one details.Names w m (places key m searched) n
-fifth_one key w m e sources h n = refl
-fifth_one key w m e times h n = ap (λ texts. details_asked details.Times w (each_once (flat_map marked_in texts))) e ∙ details_one details.Times w m (marked key m) n
+fifth_one : (key : Key) (w m : Machine) → shown key w ≡ shown key m → (part : Part) → Agree w m (first key part) → Agree w m (second key m part) → Agree w m (fourth key m part) → fifth key w part ≡ fifth key m part
+fifth_one key w m e (is row) h k n = refl
+fifth_one key w m e (output made) h k n = refl
+fifth_one key w m e directory h k n = refl
+fifth_one key w m e compiler h k n = refl
+fifth_one key w m e (plan words) h k n = refl
+fifth_one key w m e (asked ask name) h k n = fifth_asked_one key w m e ask name n
+fifth_one key w m e (run words) h k n = refl
+fifth_one key w m e (run_else words) h k n = refl
+fifth_one key w m e (pch searched) h k n = ap (details_asked details.Names w) (places_one key w m searched e h k) ∙ details_one details.Names w m (places key m searched) n
+fifth_one key w m e sources h k n = refl
+fifth_one key w m e times h k n = ap (λ texts. details_asked details.Times w (each_once (flat_map marked_in texts))) e ∙ details_one details.Times w m (marked key m) n
 
 -- ---- what is asked of what is in folders
 
@@ -340,20 +349,20 @@ insides_one w m (path ∷ paths) n o =
     ap (λ them. them ++ all_inside w paths) (ap (λ it. cond (is_folder it) (map (join path) (w (names_in path))) []) n.0 ∙ inside_by_one w m path (m (file path)) it.0)
     ∙ ap (λ them. inside m path ++ them) (insides_one w m paths n.1 it.1)
 
-sixth_one : (key : Key) (w m : Machine) → shown key w ≡ shown key m → (part : Part) → Agree w m (first key part) → Agree w m (fourth key m part) → Agree w m (fifth key m part)
+sixth_one : (key : Key) (w m : Machine) → shown key w ≡ shown key m → (part : Part) → Agree w m (first key part) → Agree w m (second key m part) → Agree w m (fourth key m part) → Agree w m (fifth key m part)
     → sixth key w part ≡ sixth key m part
-sixth_one key w m e (is row) h n o = refl
-sixth_one key w m e (output made) h n o = refl
-sixth_one key w m e directory h n o = refl
-sixth_one key w m e compiler h n o = refl
-sixth_one key w m e (plan words) h n o = refl
-sixth_one key w m e (asked ask name) h n o = refl
-sixth_one key w m e (run words) h n o = refl
-sixth_one key w m e (run_else words) h n o = refl
-sixth_one key w m e (pch searched) h n o =
-    ap (λ paths. map file (all_inside w paths)) (places_one key w m searched e h) ∙ ap (map file) (insides_one w m (places key m searched) n o)
-sixth_one key w m e sources h n o = refl
-sixth_one key w m e times h n o = refl
+sixth_one key w m e (is row) h k n o = refl
+sixth_one key w m e (output made) h k n o = refl
+sixth_one key w m e directory h k n o = refl
+sixth_one key w m e compiler h k n o = refl
+sixth_one key w m e (plan words) h k n o = refl
+sixth_one key w m e (asked ask name) h k n o = refl
+sixth_one key w m e (run words) h k n o = refl
+sixth_one key w m e (run_else words) h k n o = refl
+sixth_one key w m e (pch searched) h k n o =
+    ap (λ paths. map file (all_inside w paths)) (places_one key w m searched e h k) ∙ ap (map file) (insides_one w m (places key m searched) n o)
+sixth_one key w m e sources h k n o = refl
+sixth_one key w m e times h k n o = refl
 
 -- ---- answers
 
@@ -486,7 +495,7 @@ answer_one key w m e t (asked ask name) h k l n o p = asked_one key w m t ask na
 answer_one key w m e t (run words) h k l n o p = run_one w m words (may_fail key) k.0 n
 answer_one key w m e t (run_else words) h k l n o p =
     ap (λ b. cond b (run_told w false (ran_on w words)) (Some no_text)) e ∙ else_one w m words (has_failed key m) l n
-answer_one key w m e t (pch searched) h k l n o p = ap (headers_told key w) (places_one key w m searched t h) ∙ headers_one key w m (places key m searched) n o p
+answer_one key w m e t (pch searched) h k l n o p = ap (headers_told key w) (places_one key w m searched t h k) ∙ headers_one key w m (places key m searched) n o p
 answer_one key w m e t sources h k l n o p =
     ap (λ texts. files_told w (each_once (flat_map marked_in texts ++ filter_map input_of key.parts))) t ∙ ap (option_map in_one) (files_one w m (all_sources key m) n)
 answer_one key w m e t times h k l n o p =
@@ -558,22 +567,22 @@ after_three key w m ones twos threes one two three agree =
 
 fourths_one : (key : Key) (w m : Machine) → AfterThree key w m → flat_map (fourth key w) key.parts ≡ flat_map (fourth key m) key.parts
 fourths_one key w m it =
-    all_by_three w m (first key) (second key m) (third key m) (fourth key w) (fourth key m) key.parts
-    (λ part h k l. fourth_one key w m part (has_failed_one key w m it.twos) (has_shown_one key w m it.twos it.threes) h k l)
-    it.ones it.twos it.threes
+    all_by_four w m (first key) (second key m) (third key m) (third key m) (fourth key w) (fourth key m) key.parts
+    (λ part h k l again. fourth_one key w m part (has_failed_one key w m it.twos) (has_shown_one key w m it.twos it.threes) h k l)
+    it.ones it.twos it.threes it.threes
 
 fifths_one : (key : Key) (w m : Machine) → AfterThree key w m → Agree w m (flat_map (fourth key m) key.parts) → flat_map (fifth key w) key.parts ≡ flat_map (fifth key m) key.parts
 fifths_one key w m it n =
-    all_by_three w m (first key) (fourth key m) (fourth key m) (fifth key w) (fifth key m) key.parts
-    (λ part h n again. fifth_one key w m (has_shown_one key w m it.twos it.threes) part h n)
-    it.ones n n
+    all_by_four w m (first key) (second key m) (fourth key m) (fourth key m) (fifth key w) (fifth key m) key.parts
+    (λ part h k n again. fifth_one key w m (has_shown_one key w m it.twos it.threes) part h k n)
+    it.ones it.twos n n
 
 sixths_one : (key : Key) (w m : Machine) → AfterThree key w m → Agree w m (flat_map (fourth key m) key.parts) → Agree w m (flat_map (fifth key m) key.parts)
     → flat_map (sixth key w) key.parts ≡ flat_map (sixth key m) key.parts
 sixths_one key w m it n o =
-    all_by_three w m (first key) (fourth key m) (fifth key m) (sixth key w) (sixth key m) key.parts
-    (λ part h n o. sixth_one key w m (has_shown_one key w m it.twos it.threes) part h n o)
-    it.ones n o
+    all_by_four w m (first key) (second key m) (fourth key m) (fifth key m) (sixth key w) (sixth key m) key.parts
+    (λ part h k n o. sixth_one key w m (has_shown_one key w m it.twos it.threes) part h k n o)
+    it.ones it.twos n o
 
 all_rows_one : (key : Key) (w m : Machine) → AfterThree key w m → Agree w m (flat_map (fourth key m) key.parts) → Agree w m (flat_map (fifth key m) key.parts)
     → Agree w m (flat_map (sixth key m) key.parts) → rows_on key w ≡ rows_on key m

@@ -12,6 +12,7 @@ use Rattle.scl_readings.specs.Markers.{files_in}
 use Rattle.scl_readings.specs.declared.files.Named.TheVariants.{Entered}
 use Rattle.scl_rounds.specs.Files.{files_told}
 use Rattle.scl_rounds.specs.Keys.{Key, is_made}
+use Rattle.scl_rounds.specs.Searches.{all_folders_on}
 use Rattle.scl_rounds.specs.Shown.{each_once, marked, shown}
 
 -- ---- headers
@@ -53,14 +54,15 @@ folders_in (Some value) = parts 0x3a value
 abbrev pub folders_by : Machine → (variables : List (List ℕ)) → List (List ℕ)
 folders_by m variables = flat_map (λ name. folders_in (m (env name))) variables
 
--- those that words name, those of the first headers and of the input, and those that variables name
-abbrev pub folders : Machine → (headers searched : List (List ℕ)) → List (List ℕ)
-folders m headers searched =
+-- those that words name, those of the first headers and of the input, those that variables name, and those that the compiler names
+abbrev pub folders : Key → Machine → (headers searched : List (List ℕ)) → List (List ℕ)
+folders key m headers searched =
     each_once
     (named (codes "folder") searched
     ++ map folder_of headers
     ++ map folder_of (named (codes "beside") searched)
-    ++ folders_by m (named (codes "variable") searched))
+    ++ folders_by m (named (codes "variable") searched)
+    ++ all_folders_on m key.searches)
 
 -- ---- where they may stand
 
@@ -81,7 +83,7 @@ places_by key within names sources = flat_map (unless_made key) (each_once (flat
 
 abbrev pub places : Key → Machine → (searched : List (List ℕ)) → List (List ℕ)
 places key m searched =
-    let them = headers key m searched in places_by key (folders m them searched) (each_once (flat_map included_as them)) (them ++ marked key m)
+    let them = headers key m searched in places_by key (folders key m them searched) (each_once (flat_map included_as them)) (them ++ marked key m)
 
 -- ---- folders of them
 

@@ -6,10 +6,11 @@ use Rattle.scl_key.specs.declared.part.Ask.{Ask}
 use Rattle.scl_key.specs.declared.part.Ask.TheVariants as asks
 use Rattle.scl_key.specs.Parts.{Part, is, output, compiler, asked}
 
--- the parts of a key, and the directory of the compiler
+-- the parts of a key, the directory of the compiler, and the words of the runs that name the folders in which it searches headers
 pub record Key : Type 0 where
   pub place : List ℕ
   pub parts : List Part
+  pub searches : List (List (List ℕ))
 
 abbrev pub asks_early : Ask → Bool
 asks_early asks.SourcesIfShown = false

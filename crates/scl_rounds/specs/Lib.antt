@@ -5,6 +5,7 @@ pub mod Keys
 pub mod Plans
 pub mod Rounds
 pub mod Runs
+pub mod Searches
 pub mod Shown
 pub mod Vain
 pub mod Views

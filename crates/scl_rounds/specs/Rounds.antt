@@ -18,6 +18,7 @@ use Rattle.scl_rounds.specs.Keys.{Key, is_made}
 use Rattle.scl_patterns.specs.Patterns.{is_shown}
 use Rattle.scl_rounds.specs.Plans.{asked_plan, called_in, files_in_plan, planned_on}
 use Rattle.scl_rounds.specs.Runs.{has_failed, loaded_in}
+use Rattle.scl_rounds.specs.Searches.{asked_search}
 use Rattle.scl_rounds.specs.Shown.{all_sources, marked, shown, shown_by, unmarked}
 use Rattle.scl_rounds.specs.Vain.{is_vain}
 
@@ -51,6 +52,7 @@ abbrev pub second : Key → Machine → Part → List Question
 second key m directory = behind_said key.place (m said_directory)
 second key m (plan words) = asked_plan words ∷ []
 second key m (run_part words) = asked_run words
+second key m (pch searched) = map asked_search key.searches
 second key m other = []
 
 abbrev pub third : Key → Machine → Part → List Question

@@ -11,9 +11,10 @@ use Rattle.scl_rounds.specs.declared.key.Key as declared_key
 use Rattle.scl_rounds.specs.declared.next.Next as declared_next
 use Rattle.scl_rounds.specs.declared.next.Next.TheVariants as nexts
 use Rattle.scl_rounds.specs.Keys.{Key}
+use Rattle.scl_text.specs.Runs.{runs_of}
 
 abbrev pub key_of : declared_key.Key → Key
-key_of k = record { place = k.place.now; parts = parts_of k.parts.now }
+key_of k = record { place = k.place.now; parts = parts_of k.parts.now; searches = runs_of k.searches.now }
 
 abbrev pub key_in : declared_told.Told → Key
 key_in t = key_of t.key.now

@@ -17,6 +17,7 @@ use crate::answer::{Told, stands, value_of};
 use crate::file::files_told;
 use crate::key::{Key, is_made};
 use crate::row::{push_all_said, push_said};
+use crate::search::push_all_folders;
 use crate::shown::{each_once, marked, shown};
 use scl_files::path::join;
 use scl_key::Part;
@@ -164,9 +165,10 @@ fn push_folders_by(folders: &mut Vec<Vec<u8>>, told: &Told<'_>, variables: &[Vec
     Ok(())
 }
 
-/// The folders that words name, those of the first headers and of the input, and those that variables name.
+/// The folders that words name, those of the first headers and of the input, those that variables name, and those that the compiler
+/// names.
 fn folders(told: &Told<'_>, headers: &[Vec<u8>], searched: &[Vec<u8>]) -> Mem<Vec<Vec<u8>>>
-    ensures { IfOk result (λ them. words_of them.items ≡ folders (machine_of told.now) (words_of headers.now) (words_of searched.now)) }
+    ensures { IfOk result (λ them. words_of them.items ≡ folders (key_in told.now) (machine_of told.now) (words_of headers.now) (words_of searched.now)) }
 {
     let mut inputs = Vec::new(told.alloc);
     push_named(told.alloc, &mut inputs, b"beside", searched)?;
@@ -177,6 +179,7 @@ fn folders(told: &Told<'_>, headers: &[Vec<u8>], searched: &[Vec<u8>]) -> Mem<Ve
     push_folders_of(told.alloc, &mut folders, headers)?;
     push_folders_of(told.alloc, &mut folders, &inputs)?;
     push_folders_by(&mut folders, told, &variables)?;
+    push_all_folders(&mut folders, told)?;
     each_once(told.alloc, folders)
 }
 

@@ -16,6 +16,8 @@ pub struct Key<'a> {
     pub place: &'a [u8],
     /// Its parts.
     pub parts: &'a [Part],
+    /// The words of the runs that name the folders in which the compiler searches headers (`-v`).
+    pub searches: &'a [Vec<Vec<u8>>],
 }
 
 fn asks_early(ask: Ask) -> bool

@@ -11,6 +11,7 @@ mod plan;
 mod question;
 mod row;
 mod run;
+mod search;
 mod shown;
 mod vain;
 

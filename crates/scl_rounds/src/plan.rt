@@ -13,11 +13,12 @@ ghost use Rattle.scl_rounds.specs.Views.{key_in, key_of, machine_of};
 
 use crate::answer::{Told, stands};
 use crate::key::{Key, is_made};
+use crate::run::unfailed;
 use crate::shown::{each_once, input_of};
 use scl_driver_texts::{Splitter, split};
 use scl_files::path::{join, same_path};
 use scl_key::Part;
-use scl_questions::{Answer, Field, Language, Question, Standing, Written, answer_to, program};
+use scl_questions::{Field, Language, Question, Standing, Written, program};
 use scl_readings::{cut_at, first_place, lines_after};
 use scl_text::command::{push_word, push_words};
 use scl_values::Mem;
@@ -38,12 +39,7 @@ pub(crate) fn planned<'a>(told: &Told<'a>, words: &[Vec<u8>]) -> Mem<Option<&'a 
     ensures { IfOk result (λ plan. option_map (λ it. written_of it.now) plan ≡ planned_on (machine_of told.now) (words_of words.now)) }
 {
     let question = plan_question(told.alloc, words)?;
-    if let Some(Answer::Written(written)) = answer_to(&question, told.asked, told.answers) {
-        if written.status == 0 {
-            return Ok(Some(written));
-        }
-    }
-    Ok(None)
+    Ok(unfailed(told, &question))
 }
 
 /// Whether a byte may stand in a name.

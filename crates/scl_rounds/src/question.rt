@@ -9,7 +9,9 @@ ghost use Rattle.scl_questions.specs.Views.{question_of, questions_of};
 ghost use Rattle.scl_rounds.specs.Headers.{all_inside, named, places};
 ghost use Rattle.scl_rounds.specs.Plans.{asked_plan, planned_on};
 ghost use Rattle.scl_rounds.specs.Rounds.{asked_in, asked_run, behind_said, called, called_by_plan, detail_asked, detail_question, details_asked, fifth, fifth_asked, first, first_asked, fourth, has_detail, loaded_by, needed, needed_asked, needed_by, second, sixth, stage, third};
+ghost use Rattle.scl_rounds.specs.Searches.{asked_search};
 ghost use Rattle.scl_rounds.specs.Views.{key_in, key_of, machine_of};
+ghost use Rattle.scl_text.specs.Runs.{runs_of};
 
 use crate::answer::{Told, said_directory};
 use crate::file::is_regular;
@@ -17,6 +19,7 @@ use crate::header::{all_inside, is_folder, places, push_named};
 use crate::key::{Key, is_made};
 use crate::plan::{called_in, files_in_plan, plan_question, planned};
 use crate::run::{has_failed, loaded_in};
+use crate::search::search_question;
 use crate::shown::{all_sources, marked, shown, shown_by, unmarked};
 use crate::vain::is_vain;
 use scl_key::{Ask, Part};
@@ -31,7 +34,7 @@ use std::alloc::Global;
 pub(crate) enum Phase {
     /// What needs no answer.
     First,
-    /// The runs, and where `PWD` leads.
+    /// The runs, those that name folders, and where `PWD` leads.
     Runs,
     /// The runs in place of those that failed.
     RunsElse,
@@ -182,6 +185,16 @@ fn push_plan(alloc: Global, questions: &mut Vec<Question>, words: &[Vec<u8>]) ->
     Ok(())
 }
 
+/// Appends the runs that name folders.
+fn push_searches(alloc: Global, questions: &mut Vec<Question>, searches: &[Vec<Vec<u8>>]) -> Mem<()>
+    ensures { OnOk result (questions_of questions.new.items ≡ questions_of questions.old.items ++ map asked_search (runs_of searches.now)) }
+{
+    for words in searches {
+        questions.push(search_question(alloc, words)?)?;
+    }
+    Ok(())
+}
+
 /// Appends what the second round asks for a part.
 fn push_second(questions: &mut Vec<Question>, told: &Told<'_>, part: &Part) -> Mem<()>
     ensures { OnOk result (questions_of questions.new.items ≡ questions_of questions.old.items ++ second (key_in told.now) (machine_of told.now) (part_of part.now)) }
@@ -193,12 +206,12 @@ fn push_second(questions: &mut Vec<Question>, told: &Told<'_>, part: &Part) -> M
         }
         Part::Plan(words) => push_plan(told.alloc, questions, words),
         Part::Run(words) => push_run(told.alloc, questions, words),
+        Part::Pch(_) => push_searches(told.alloc, questions, told.key.searches),
         Part::Is(_)
         | Part::Output(_)
         | Part::Compiler
         | Part::Asked(_, _)
         | Part::RunElse(_)
-        | Part::Pch(_)
         | Part::Sources
         | Part::Times => Ok(()),
     }

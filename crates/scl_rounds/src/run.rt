@@ -3,8 +3,9 @@ ghost use Rattle.std.specs.Prelude.{◌≡◌, IfOk};
 ghost use Rattle.std.specs.Option.{option_map};
 ghost use Rattle.scl_values.specs.Words.{words_of};
 ghost use Rattle.scl_key.specs.Views.{part_of};
-ghost use Rattle.scl_lookup.specs.Keys.{ran_on};
-ghost use Rattle.scl_questions.specs.Views.{row_of, written_of};
+ghost use Rattle.scl_lookup.specs.Keys.{ran_on, unfailed};
+ghost use Rattle.scl_questions.specs.Answers.{reply_to, written_in};
+ghost use Rattle.scl_questions.specs.Views.{question_of, questions_of, replies_of, row_of, written_of};
 ghost use Rattle.scl_rounds.specs.Runs.{fails, has_failed, has_marker, is_else, loaded_in, may_fail, names_sources, no_text, outputs_told, run_told, written_told};
 ghost use Rattle.scl_rounds.specs.Views.{key_in, key_of, machine_of};
 
@@ -18,17 +19,24 @@ use scl_text::command::copy_words;
 use scl_values::Mem;
 use std::alloc::Global;
 
+/// What was written, by the answer to a question, if the run did not fail.
+pub(crate) fn unfailed<'a>(told: &Told<'a>, question: &Question) -> Option<&'a Written>
+    ensures { option_map (λ it. written_of it.now) result ≡ unfailed (written_in (reply_to (question_of question.now) (questions_of told.now.asked.now) (replies_of told.now.answers.now))) }
+{
+    if let Some(Answer::Written(written)) = answer_to(question, told.asked, told.answers) {
+        if written.status == 0 {
+            return Some(written);
+        }
+    }
+    None
+}
+
 /// What a run wrote, if it did not fail.
 pub(crate) fn ran<'a>(told: &Told<'a>, words: &[Vec<u8>]) -> Mem<Option<&'a Written>>
     ensures { IfOk result (λ ran. option_map (λ it. written_of it.now) ran ≡ ran_on (machine_of told.now) (words_of words.now)) }
 {
     let question = Question::Run(Language::Own, copy_words(told.alloc, words)?);
-    if let Some(Answer::Written(written)) = answer_to(&question, told.asked, told.answers) {
-        if written.status == 0 {
-            return Ok(Some(written));
-        }
-    }
-    Ok(None)
+    Ok(unfailed(told, &question))
 }
 
 /// Whether a run may fail: the key has others in its place.

@@ -7,6 +7,7 @@ use scl_key::{Ask, Output, Part};
 use scl_questions::{Answer, Field, Language, Program, Question, Standing, Written};
 use scl_rounds::{Key, Next, look_up};
 use std::alloc::Global;
+use std::mem::swap;
 use std::test::Fail;
 
 // ---- texts of keys
@@ -63,9 +64,22 @@ fn parts(alloc: Global, key: &str) -> Mem<Vec<Part>> {
     let mut parts = Vec::new(alloc);
     for row in key.lines() {
         let (name, fields) = row.split_once(' ').unwrap_or((row, ""));
-        parts.push(part(alloc, name, fields)?)?;
+        if name != "search" {
+            parts.push(part(alloc, name, fields)?)?;
+        }
     }
     Ok(parts)
+}
+
+/// The words of the rows `search`.
+fn searches(alloc: Global, key: &str) -> Mem<Vec<Vec<Vec<u8>>>> {
+    let mut searches = Vec::new(alloc);
+    for row in key.lines() {
+        if let Some(fields) = row.strip_prefix("search ") {
+            searches.push(words(alloc, fields)?)?;
+        }
+    }
+    Ok(searches)
 }
 
 // ---- texts of questions, and machines
@@ -143,17 +157,22 @@ fn standing(alloc: Global, text: Option<&str>) -> Mem<Standing> {
     }
 }
 
-fn written(alloc: Global, text: Option<&str>) -> Mem<Written> {
+/// What a run writes: in C to standard error, else to standard output.
+fn written(alloc: Global, language: Language, text: Option<&str>) -> Mem<Written> {
     let mut output = Vec::new(alloc);
     for byte in text.unwrap_or("").as_bytes() {
         output.push(if *byte == b'|' { b'\n' } else { *byte })?;
     }
-    Ok(Written {
+    let mut written = Written {
         status: if text.is_some() { 0 } else { 1 },
         output,
         messages: Vec::new(alloc),
         own: Vec::new(alloc),
-    })
+    };
+    if language == Language::C {
+        swap(&mut written.output, &mut written.messages);
+    }
+    Ok(written)
 }
 
 fn answer(alloc: Global, machine: &str, question: &Question) -> Mem<Answer> {
@@ -167,7 +186,7 @@ fn answer(alloc: Global, machine: &str, question: &Question) -> Mem<Answer> {
         Question::Names(_) => Ok(Answer::Names(words(alloc, text)?)),
         Question::Real(_) => Ok(Answer::Real(bytes(alloc, text)?)),
         Question::Times(_) => Ok(Answer::Times(bytes(alloc, text)?)),
-        Question::Run(_, _) => Ok(Answer::Written(written(alloc, told)?)),
+        Question::Run(language, _) => Ok(Answer::Written(written(alloc, *language, told)?)),
     }
 }
 
@@ -231,6 +250,7 @@ fn take_round(
 /// Talks until there is an end, in as many rounds as there are.
 fn talked(alloc: Global, key: &str, machine: &str) -> Mem<Talk> {
     let parts = parts(alloc, key)?;
+    let searches = searches(alloc, key)?;
     let mut answers = Vec::new(alloc);
     let mut talk = Talk {
         asked: Vec::new(alloc),
@@ -239,6 +259,7 @@ fn talked(alloc: Global, key: &str, machine: &str) -> Mem<Talk> {
     let key = Key {
         place: b"/w",
         parts: &parts,
+        searches: &searches,
     };
     for _ in 0..7 {
         match look_up(alloc, &key, &answers)? {
@@ -406,6 +427,127 @@ fn without_precompiled_header_words_of_runs_are_no_matter(rt: HostRuntime) -> Re
     Ok(())
 }
 
+// ---- the folders that the compiler names
+
+/// What gcc 12 writes for `-E -x c -v -iquote q -Ij -`.
+static GCC_SAYS: &str = r#"Using built-in specs.
+COLLECT_GCC=gcc-12
+OFFLOAD_TARGET_NAMES=nvptx-none:amdgcn-amdhsa
+OFFLOAD_TARGET_DEFAULT=1
+Target: x86_64-linux-gnu
+Configured with: ../src/configure -v --with-pkgversion='Debian 12.2.0-14+deb12u1' --with-bugurl=file:///usr/share/doc/gcc-12/README.Bugs --enable-languages=c,ada,c++,go,d,fortran,objc,obj-c++,m2 --prefix=/usr --with-gcc-major-version-only --program-suffix=-12 --program-prefix=x86_64-linux-gnu- --enable-shared --enable-linker-build-id --libexecdir=/usr/lib --without-included-gettext --enable-threads=posix --libdir=/usr/lib --enable-nls --enable-clocale=gnu --enable-libstdcxx-debug --enable-libstdcxx-time=yes --with-default-libstdcxx-abi=new --enable-gnu-unique-object --disable-vtable-verify --enable-plugin --enable-default-pie --with-system-zlib --enable-libphobos-checking=release --with-target-system-zlib=auto --enable-objc-gc=auto --enable-multiarch --disable-werror --enable-cet --with-arch-32=i686 --with-abi=m64 --with-multilib-list=m32,m64,mx32 --enable-multilib --with-tune=generic --enable-offload-targets=nvptx-none=/build/reproducible-path/gcc-12-12.2.0/debian/tmp-nvptx/usr,amdgcn-amdhsa=/build/reproducible-path/gcc-12-12.2.0/debian/tmp-gcn/usr --enable-offload-defaulted --without-cuda-driver --enable-checking=release --build=x86_64-linux-gnu --host=x86_64-linux-gnu --target=x86_64-linux-gnu
+Thread model: posix
+Supported LTO compression algorithms: zlib zstd
+gcc version 12.2.0 (Debian 12.2.0-14+deb12u1) 
+COLLECT_GCC_OPTIONS='-E' '-v' '-iquote' 'q' '-I' 'j' '-mtune=generic' '-march=x86-64'
+ /usr/lib/gcc/x86_64-linux-gnu/12/cc1 -E -quiet -v -I j -imultiarch x86_64-linux-gnu -iquote q - -mtune=generic -march=x86-64 -fasynchronous-unwind-tables -dumpbase -
+ignoring nonexistent directory "/usr/local/include/x86_64-linux-gnu"
+ignoring nonexistent directory "/usr/lib/gcc/x86_64-linux-gnu/12/include-fixed"
+ignoring nonexistent directory "/usr/lib/gcc/x86_64-linux-gnu/12/../../../../x86_64-linux-gnu/include"
+#include "..." search starts here:
+ q
+#include <...> search starts here:
+ j
+ /usr/lib/gcc/x86_64-linux-gnu/12/include
+ /usr/local/include
+ /usr/include/x86_64-linux-gnu
+ /usr/include
+End of search list.
+COMPILER_PATH=/usr/lib/gcc/x86_64-linux-gnu/12/:/usr/lib/gcc/x86_64-linux-gnu/12/:/usr/lib/gcc/x86_64-linux-gnu/:/usr/lib/gcc/x86_64-linux-gnu/12/:/usr/lib/gcc/x86_64-linux-gnu/
+LIBRARY_PATH=/usr/lib/gcc/x86_64-linux-gnu/12/:/usr/lib/gcc/x86_64-linux-gnu/12/../../../x86_64-linux-gnu/:/usr/lib/gcc/x86_64-linux-gnu/12/../../../../lib/:/lib/x86_64-linux-gnu/:/lib/../lib/:/usr/lib/x86_64-linux-gnu/:/usr/lib/../lib/:/usr/lib/gcc/x86_64-linux-gnu/12/../../../:/lib/:/usr/lib/
+COLLECT_GCC_OPTIONS='-E' '-v' '-iquote' 'q' '-I' 'j' '-mtune=generic' '-march=x86-64'
+"#;
+
+/// What clang 14 writes for the same words.
+static CLANG_SAYS: &str = r#"Debian clang version 14.0.6
+Target: x86_64-pc-linux-gnu
+Thread model: posix
+InstalledDir: /usr/bin
+Found candidate GCC installation: /usr/bin/../lib/gcc/x86_64-linux-gnu/12
+Selected GCC installation: /usr/bin/../lib/gcc/x86_64-linux-gnu/12
+Candidate multilib: .;@m64
+Selected multilib: .;@m64
+Found CUDA installation: /usr/local/cuda, version 
+ (in-process)
+ "/usr/lib/llvm-14/bin/clang" -cc1 -triple x86_64-pc-linux-gnu -E -disable-free -clear-ast-before-backend -disable-llvm-verifier -discard-value-names -main-file-name - -mrelocation-model pic -pic-level 2 -pic-is-pie -mframe-pointer=all -fmath-errno -ffp-contract=on -fno-rounding-math -mconstructor-aliases -funwind-tables=2 -target-cpu x86-64 -tune-cpu generic -debugger-tuning=gdb -v -fcoverage-compilation-dir=/tmp/gt -resource-dir /usr/lib/llvm-14/lib/clang/14.0.6 -iquote q -I j -internal-isystem /usr/lib/llvm-14/lib/clang/14.0.6/include -internal-isystem /usr/local/include -internal-isystem /usr/bin/../lib/gcc/x86_64-linux-gnu/12/../../../../x86_64-linux-gnu/include -internal-externc-isystem /usr/include/x86_64-linux-gnu -internal-externc-isystem /include -internal-externc-isystem /usr/include -fdebug-compilation-dir=/tmp/gt -ferror-limit 19 -fgnuc-version=4.2.1 -faddrsig -D__GCC_HAVE_DWARF2_CFI_ASM=1 -o - -x c -
+clang -cc1 version 14.0.6 based upon LLVM 14.0.6 default target x86_64-pc-linux-gnu
+ignoring nonexistent directory "/usr/bin/../lib/gcc/x86_64-linux-gnu/12/../../../../x86_64-linux-gnu/include"
+ignoring nonexistent directory "/include"
+#include "..." search starts here:
+ q
+#include <...> search starts here:
+ j
+ /usr/lib/llvm-14/lib/clang/14.0.6/include
+ /usr/local/include
+ /usr/include/x86_64-linux-gnu
+ /usr/include
+End of search list.
+"#;
+
+static WITH_SEARCH: &str = "is input a.c
+run -E a.c
+pch beside a.c
+search -E -x c -v -";
+
+static WITH_SEARCH_ASKED: &str = "run-in-C -E -x c -v -
+
+file h.h.gch
+file q/h.h.gch
+file j/h.h.gch
+";
+
+static WITH_SEARCH_BEHIND: &str = "file /usr/local/include/h.h.gch
+file /usr/include/x86_64-linux-gnu/h.h.gch
+file /usr/include/h.h.gch
+file a.c.gch
+
+";
+
+/// A text in the place of an answer.
+fn in_one_line(alloc: Global, text: &str) -> Mem<Vec<u8>> {
+    let mut line = Vec::new(alloc);
+    for byte in text.as_bytes() {
+        line.push(if *byte == b'\n' { b'|' } else { *byte })?;
+    }
+    Ok(line)
+}
+
+#[test]
+fn precompiled_headers_stand_where_the_compiler_searches(rt: HostRuntime) -> Result<(), Fail> {
+    for (said, own) in [
+        (GCC_SAYS, "/usr/lib/gcc/x86_64-linux-gnu/12/include"),
+        (CLANG_SAYS, "/usr/lib/llvm-14/lib/clang/14.0.6/include"),
+    ] {
+        let line = in_one_line(rt.alloc(), said)?;
+        let text = "# 1 \"a.c\"|# 1 \"h.h\" 1|int h;|";
+        let says = shown(&line);
+        let machine = format!(in rt.alloc();
+            "run -E a.c => {text}\nrun-in-C -E -x c -v - => {says}\nfile /usr/include/h.h.gch => of-h\n"
+        )?;
+        let talk = talked(rt.alloc(), WITH_SEARCH, machine.as_str())?;
+        let asked = shown(&talk.asked);
+        let places = format!(in rt.alloc();
+            "run -E a.c\n{WITH_SEARCH_ASKED}file {own}/h.h.gch\n{WITH_SEARCH_BEHIND}"
+        )?;
+        assert!(rt; asked == places.as_str(), "{asked}");
+        let rows = shown(&talk.end);
+        assert!(rt; rows.contains(" :/usr/include/h.h.gch =of-h "), "{rows}");
+    }
+    Ok(())
+}
+
+#[test]
+fn a_search_that_fails_names_no_folders(rt: HostRuntime) -> Result<(), Fail> {
+    let machine = "run -E a.c => # 1 \"a.c\"|# 1 \"h.h\" 1|int h;|";
+    let talk = talked(rt.alloc(), WITH_SEARCH, machine)?;
+    let asked = shown(&talk.asked);
+    assert!(rt;
+        asked.ends_with("\n\nfile h.h.gch\nfile a.c.gch\n\n"),
+        "{asked}"
+    );
+    Ok(())
+}
+
 // ---- runs that fail, and answers that do not fit
 
 static WITH_ELSE: &str = "is input a.c
@@ -496,6 +638,7 @@ fn answers_of_other_questions_are_refused(rt: HostRuntime) -> Result<(), Fail> {
     let key = Key {
         place: b"/w",
         parts: &parts,
+        searches: &[],
     };
     let mut answers = Vec::new(rt.alloc());
     answers.push(Answer::Value(None))?;

@@ -14,8 +14,8 @@ returns c =
     let searched = words_of c.args.searched.now in
     let them = words_of c.in_ok-headers.headers.items in
     let one : them ≡ headers key m searched = c.in_ok-headers.ensures in
-    let two : words_of c.deref-3.result.now ≡ folders m them searched =
-    ap words_of c.deref-3.ensures.value ∙ c.in_ok-folders.ensures ∙ ap (λ it. folders m (words_of it) searched) c.deref.ensures.value in
+    let two : words_of c.deref-3.result.now ≡ folders key m them searched =
+    ap words_of c.deref-3.ensures.value ∙ c.in_ok-folders.ensures ∙ ap (λ it. folders key m (words_of it) searched) c.deref.ensures.value in
     let three : words_of c.deref-4.result.now ≡ each_once (flat_map included_as them) =
     ap words_of c.deref-4.ensures.value
     ∙ c.in_ok-names.ensures
