@@ -28,7 +28,7 @@ use Rattle.scl_catalogue_text.specs.Names.{brings_name, brings_named, compiler_n
 use Rattle.scl_catalogue_text.specs.Outcome.{after}
 use Rattle.scl_catalogue_text.specs.Reading.{case_read, group_named, tests_read}
 use Rattle.scl_catalogue_text.specs.Writable.{AreCases, AreEntries, AreGroups, CanBeWritten, IsCase, IsEntry, are_tests, has_one, HasWords, is_group_name, is_plain_word, is_served}
-use Rattle.scl_catalogue_text.specs.Written.{case_text, condition_text, entry_lines, group_line, head_text, joined, kind_text, lines_of, lines_of_entries, lines_text, spaced, tests_text, written}
+use Rattle.scl_catalogue_text.specs.Written.{case_text, condition_text, entry_lines, group_line, head_text, joined, lines_of, lines_of_entries, lines_text, spaced, tests_text, written}
 use Rattle.scl_catalogue_text.specs.declared.mistake.BadLine.{BadLine}
 use Rattle.scl_catalogue_text.specs.declared.names.Kind.{Kind}
 use Rattle.scl_catalogue_text.specs.declared.names.Kind.TheVariants as kind
@@ -152,7 +152,7 @@ name-read tells name h =
     let cut : words (spaced (name ∷ [])) ≡ name ∷ [] = words-spaced (name ∷ []) (both (plain-unbroken name h) refl) in
     ap (name_read tells) cut
 
-kind-written : (gs : List Group) (k : Kind) (name what : List ℕ) (tells : Tells) → is_plain_word name ≡ true → is_unbroken what ≡ true → tells_named k what ≡ Some tells → line_read gs (kind_text k name what) ≡ Ok (NewEntry tells name)
+kind-written : (gs : List Group) (k : Kind) (name what : List ℕ) (tells : Tells) → is_plain_word name ≡ true → is_unbroken what ≡ true → tells_named k what ≡ Some tells → line_read gs (kind_name k ++ spaced (name ∷ what ∷ [])) ≡ Ok (NewEntry tells name)
 unfolding kind_read
 kind-written gs k name what tells h unbroken told =
     let cut : words (spaced (name ∷ what ∷ [])) ≡ name ∷ what ∷ [] = words-spaced (name ∷ what ∷ []) (both (plain-unbroken name h) (both unbroken refl)) in
@@ -198,7 +198,7 @@ group-line-bytes : (g : Group) → is_group_name g.name ≡ true → are_tests g
 group-line-bytes g h k =
     all-append is_of_line g.name (58 ∷ tests_text g.tests) (lacks-all is_of_name [] g.name (other-than-control (32 ∷ 58 ∷ 59 ∷ 62 ∷ [])) refl (and-right (has_one g.name) (list_all is_of_name g.name) h)) (lacks-all is_of_tests [] (tests_text g.tests) tests-control refl (of-tests g.tests k))
 
-kind-bytes : (k : Kind) (name what : List ℕ) → is_plain_word name ≡ true → list_all is_of_line what ≡ true → list_all is_of_line (kind_text k name what) ≡ true
+kind-bytes : (k : Kind) (name what : List ℕ) → is_plain_word name ≡ true → list_all is_of_line what ≡ true → list_all is_of_line (kind_name k ++ spaced (name ∷ what ∷ [])) ≡ true
 kind-bytes kind.Hazard name what h w = spaced-bytes is_of_line refl (name ∷ what ∷ []) (both (plain-line name h) (both w refl))
 kind-bytes kind.Key name what h w = spaced-bytes is_of_line refl (name ∷ what ∷ []) (both (plain-line name h) (both w refl))
 kind-bytes kind.Run name what h w = spaced-bytes is_of_line refl (name ∷ what ∷ []) (both (plain-line name h) (both w refl))

@@ -1,5 +1,5 @@
 -- The words by which a catalogue's text names things.
-use Rattle.std.specs.Prelude.{ℕ, cond, List, codes, Option, None, Some}
+use Rattle.std.specs.Prelude.{ℕ, List, [], ◌∷◌, codes, Option, find}
 use Rattle.std.specs.Str.{bytes_eq}
 use Rattle.scl_catalogue.specs.declared.case.Compiler.{Compiler}
 use Rattle.scl_catalogue.specs.declared.case.Compiler.TheVariants as compiler
@@ -24,6 +24,10 @@ use Rattle.scl_catalogue.specs.declared.test.Class.TheVariants as class
 use Rattle.scl_catalogue_text.specs.declared.names.Kind.{Kind}
 use Rattle.scl_catalogue_text.specs.declared.names.Kind.TheVariants as kind
 
+-- the first of these that has the word as its name
+abbrev pub named_by : {A : Type 0} → (A → List ℕ) → List A → List ℕ → Option A
+named_by name all word = find (λ x. bytes_eq word (name x)) all
+
 abbrev pub class_name : Class → List ℕ
 class_name class.Option = codes "option"
 class_name class.Raw = codes "raw"
@@ -31,13 +35,11 @@ class_name class.Unknown = codes "unknown"
 class_name class.Flag = codes "flag"
 class_name class.Kind = codes "kind"
 
+abbrev pub all_classes : List Class
+all_classes = class.Option ∷ class.Raw ∷ class.Unknown ∷ class.Flag ∷ class.Kind ∷ []
+
 abbrev pub class_named : List ℕ → Option Class
-class_named word =
-    cond (bytes_eq word (class_name class.Option)) (Some class.Option) (
-    cond (bytes_eq word (class_name class.Raw)) (Some class.Raw) (
-    cond (bytes_eq word (class_name class.Unknown)) (Some class.Unknown) (
-    cond (bytes_eq word (class_name class.Flag)) (Some class.Flag) (
-    cond (bytes_eq word (class_name class.Kind)) (Some class.Kind) (None)))))
+class_named word = named_by class_name all_classes word
 
 abbrev pub mark_name : Mark → List ℕ
 mark_name mark.Stays = codes "stays"
@@ -46,13 +48,11 @@ mark_name mark.Joined = codes "joined"
 mark_name mark.DelimiterDropped = codes "delimiter-dropped"
 mark_name mark.HiddenValue = codes "hidden-value"
 
+abbrev pub all_marks : List Mark
+all_marks = mark.Stays ∷ mark.Apart ∷ mark.Joined ∷ mark.DelimiterDropped ∷ mark.HiddenValue ∷ []
+
 abbrev pub mark_named : List ℕ → Option Mark
-mark_named word =
-    cond (bytes_eq word (mark_name mark.Stays)) (Some mark.Stays) (
-    cond (bytes_eq word (mark_name mark.Apart)) (Some mark.Apart) (
-    cond (bytes_eq word (mark_name mark.Joined)) (Some mark.Joined) (
-    cond (bytes_eq word (mark_name mark.DelimiterDropped)) (Some mark.DelimiterDropped) (
-    cond (bytes_eq word (mark_name mark.HiddenValue)) (Some mark.HiddenValue) (None)))))
+mark_named word = named_by mark_name all_marks word
 
 abbrev pub fact_name : Fact → List ℕ
 fact_name fact.Plusplus = codes "plusplus"
@@ -67,19 +67,11 @@ fact_name fact.OtherTarget = codes "other-target"
 fact_name fact.RenamedObject = codes "renamed-object"
 fact_name fact.PrecompiledHeader = codes "precompiled-header"
 
+abbrev pub all_facts : List Fact
+all_facts = fact.Plusplus ∷ fact.Apple ∷ fact.Preprocessed ∷ fact.OtherLanguage ∷ fact.SplitOtherwise ∷ fact.EnvironmentSplitOtherwise ∷ fact.HiddenInput ∷ fact.HiddenObject ∷ fact.OtherTarget ∷ fact.RenamedObject ∷ fact.PrecompiledHeader ∷ []
+
 abbrev pub fact_named : List ℕ → Option Fact
-fact_named word =
-    cond (bytes_eq word (fact_name fact.Plusplus)) (Some fact.Plusplus) (
-    cond (bytes_eq word (fact_name fact.Apple)) (Some fact.Apple) (
-    cond (bytes_eq word (fact_name fact.Preprocessed)) (Some fact.Preprocessed) (
-    cond (bytes_eq word (fact_name fact.OtherLanguage)) (Some fact.OtherLanguage) (
-    cond (bytes_eq word (fact_name fact.SplitOtherwise)) (Some fact.SplitOtherwise) (
-    cond (bytes_eq word (fact_name fact.EnvironmentSplitOtherwise)) (Some fact.EnvironmentSplitOtherwise) (
-    cond (bytes_eq word (fact_name fact.HiddenInput)) (Some fact.HiddenInput) (
-    cond (bytes_eq word (fact_name fact.HiddenObject)) (Some fact.HiddenObject) (
-    cond (bytes_eq word (fact_name fact.OtherTarget)) (Some fact.OtherTarget) (
-    cond (bytes_eq word (fact_name fact.RenamedObject)) (Some fact.RenamedObject) (
-    cond (bytes_eq word (fact_name fact.PrecompiledHeader)) (Some fact.PrecompiledHeader) (None)))))))))))
+fact_named word = named_by fact_name all_facts word
 
 abbrev pub place_name : Place → List ℕ
 place_name place.Word = codes "word"
@@ -90,15 +82,11 @@ place_name place.Input = codes "input"
 place_name place.Extension = codes "extension"
 place_name place.Object = codes "object"
 
+abbrev pub all_places : List Place
+all_places = place.Word ∷ place.File ∷ place.Environment ∷ place.Language ∷ place.Input ∷ place.Extension ∷ place.Object ∷ []
+
 abbrev pub place_named : List ℕ → Option Place
-place_named word =
-    cond (bytes_eq word (place_name place.Word)) (Some place.Word) (
-    cond (bytes_eq word (place_name place.File)) (Some place.File) (
-    cond (bytes_eq word (place_name place.Environment)) (Some place.Environment) (
-    cond (bytes_eq word (place_name place.Language)) (Some place.Language) (
-    cond (bytes_eq word (place_name place.Input)) (Some place.Input) (
-    cond (bytes_eq word (place_name place.Extension)) (Some place.Extension) (
-    cond (bytes_eq word (place_name place.Object)) (Some place.Object) (None)))))))
+place_named word = named_by place_name all_places word
 
 abbrev pub compiler_name : Compiler → List ℕ
 compiler_name compiler.Gcc = codes "gcc"
@@ -108,14 +96,11 @@ compiler_name compiler.Cl = codes "cl"
 compiler_name compiler.Diab = codes "diab"
 compiler_name compiler.Tasking = codes "tasking"
 
+abbrev pub all_compilers : List Compiler
+all_compilers = compiler.Gcc ∷ compiler.Clang ∷ compiler.ClangCl ∷ compiler.Cl ∷ compiler.Diab ∷ compiler.Tasking ∷ []
+
 abbrev pub compiler_named : List ℕ → Option Compiler
-compiler_named word =
-    cond (bytes_eq word (compiler_name compiler.Gcc)) (Some compiler.Gcc) (
-    cond (bytes_eq word (compiler_name compiler.Clang)) (Some compiler.Clang) (
-    cond (bytes_eq word (compiler_name compiler.ClangCl)) (Some compiler.ClangCl) (
-    cond (bytes_eq word (compiler_name compiler.Cl)) (Some compiler.Cl) (
-    cond (bytes_eq word (compiler_name compiler.Diab)) (Some compiler.Diab) (
-    cond (bytes_eq word (compiler_name compiler.Tasking)) (Some compiler.Tasking) (None))))))
+compiler_named word = named_by compiler_name all_compilers word
 
 abbrev pub danger_name : Danger → List ℕ
 danger_name danger.Object = codes "object"
@@ -124,13 +109,11 @@ danger_name danger.SideFile = codes "side-file"
 danger_name danger.Messages = codes "messages"
 danger_name danger.Run = codes "run"
 
+abbrev pub all_dangers : List Danger
+all_dangers = danger.Object ∷ danger.Failure ∷ danger.SideFile ∷ danger.Messages ∷ danger.Run ∷ []
+
 abbrev pub danger_named : List ℕ → Option Danger
-danger_named word =
-    cond (bytes_eq word (danger_name danger.Object)) (Some danger.Object) (
-    cond (bytes_eq word (danger_name danger.Failure)) (Some danger.Failure) (
-    cond (bytes_eq word (danger_name danger.SideFile)) (Some danger.SideFile) (
-    cond (bytes_eq word (danger_name danger.Messages)) (Some danger.Messages) (
-    cond (bytes_eq word (danger_name danger.Run)) (Some danger.Run) (None)))))
+danger_named word = named_by danger_name all_dangers word
 
 abbrev pub verb_name : Verb → List ℕ
 verb_name verb.Reads = codes "reads"
@@ -138,12 +121,11 @@ verb_name verb.Writes = codes "writes"
 verb_name verb.Asks = codes "asks"
 verb_name verb.Loads = codes "loads"
 
+abbrev pub all_verbs : List Verb
+all_verbs = verb.Reads ∷ verb.Writes ∷ verb.Asks ∷ verb.Loads ∷ []
+
 abbrev pub verb_named : List ℕ → Option Verb
-verb_named word =
-    cond (bytes_eq word (verb_name verb.Reads)) (Some verb.Reads) (
-    cond (bytes_eq word (verb_name verb.Writes)) (Some verb.Writes) (
-    cond (bytes_eq word (verb_name verb.Asks)) (Some verb.Asks) (
-    cond (bytes_eq word (verb_name verb.Loads)) (Some verb.Loads) (None))))
+verb_named word = named_by verb_name all_verbs word
 
 abbrev pub doing_name : Doing → List ℕ
 doing_name doing.Plain = codes "plain"
@@ -154,15 +136,11 @@ doing_name doing.TextHides = codes "hides-text"
 doing_name doing.ReadsCounts = codes "reads-counts"
 doing_name doing.ReadsSamples = codes "reads-samples"
 
+abbrev pub all_doings : List Doing
+all_doings = doing.Plain ∷ doing.Exact ∷ doing.Macros ∷ doing.WritesUnnamed ∷ doing.TextHides ∷ doing.ReadsCounts ∷ doing.ReadsSamples ∷ []
+
 abbrev pub doing_named : List ℕ → Option Doing
-doing_named word =
-    cond (bytes_eq word (doing_name doing.Plain)) (Some doing.Plain) (
-    cond (bytes_eq word (doing_name doing.Exact)) (Some doing.Exact) (
-    cond (bytes_eq word (doing_name doing.Macros)) (Some doing.Macros) (
-    cond (bytes_eq word (doing_name doing.WritesUnnamed)) (Some doing.WritesUnnamed) (
-    cond (bytes_eq word (doing_name doing.TextHides)) (Some doing.TextHides) (
-    cond (bytes_eq word (doing_name doing.ReadsCounts)) (Some doing.ReadsCounts) (
-    cond (bytes_eq word (doing_name doing.ReadsSamples)) (Some doing.ReadsSamples) (None)))))))
+doing_named word = named_by doing_name all_doings word
 
 abbrev pub naming_name : Naming → List ℕ
 naming_name naming.Nothing = codes "nothing"
@@ -172,14 +150,11 @@ naming_name naming.DebugMap = codes "maps-debug-info"
 naming_name naming.MacroMap = codes "maps-macros"
 naming_name naming.Anything = codes "anything"
 
+abbrev pub all_namings : List Naming
+all_namings = naming.Nothing ∷ naming.DebugInfo ∷ naming.FileMap ∷ naming.DebugMap ∷ naming.MacroMap ∷ naming.Anything ∷ []
+
 abbrev pub naming_named : List ℕ → Option Naming
-naming_named word =
-    cond (bytes_eq word (naming_name naming.Nothing)) (Some naming.Nothing) (
-    cond (bytes_eq word (naming_name naming.DebugInfo)) (Some naming.DebugInfo) (
-    cond (bytes_eq word (naming_name naming.FileMap)) (Some naming.FileMap) (
-    cond (bytes_eq word (naming_name naming.DebugMap)) (Some naming.DebugMap) (
-    cond (bytes_eq word (naming_name naming.MacroMap)) (Some naming.MacroMap) (
-    cond (bytes_eq word (naming_name naming.Anything)) (Some naming.Anything) (None))))))
+naming_named word = named_by naming_name all_namings word
 
 abbrev pub brings_name : Brings → List ℕ
 brings_name brings.Folder = codes "folder"
@@ -189,14 +164,11 @@ brings_name brings.Other = codes "other"
 brings_name brings.Dependencies = codes "dependencies"
 brings_name brings.Unknown = codes "unknown"
 
+abbrev pub all_brings : List Brings
+all_brings = brings.Folder ∷ brings.Header ∷ brings.MacroFile ∷ brings.Other ∷ brings.Dependencies ∷ brings.Unknown ∷ []
+
 abbrev pub brings_named : List ℕ → Option Brings
-brings_named word =
-    cond (bytes_eq word (brings_name brings.Folder)) (Some brings.Folder) (
-    cond (bytes_eq word (brings_name brings.Header)) (Some brings.Header) (
-    cond (bytes_eq word (brings_name brings.MacroFile)) (Some brings.MacroFile) (
-    cond (bytes_eq word (brings_name brings.Other)) (Some brings.Other) (
-    cond (bytes_eq word (brings_name brings.Dependencies)) (Some brings.Dependencies) (
-    cond (bytes_eq word (brings_name brings.Unknown)) (Some brings.Unknown) (None))))))
+brings_named word = named_by brings_name all_brings word
 
 -- entries that are a name and one word of a list
 abbrev pub kind_name : Kind → List ℕ
@@ -206,10 +178,8 @@ kind_name kind.Run = codes "run"
 kind_name kind.Names = codes "names"
 kind_name kind.Brings = codes "brings"
 
+abbrev pub all_kinds : List Kind
+all_kinds = kind.Hazard ∷ kind.Key ∷ kind.Run ∷ kind.Names ∷ kind.Brings ∷ []
+
 abbrev pub kind_named : List ℕ → Option Kind
-kind_named word =
-    cond (bytes_eq word (kind_name kind.Hazard)) (Some kind.Hazard) (
-    cond (bytes_eq word (kind_name kind.Key)) (Some kind.Key) (
-    cond (bytes_eq word (kind_name kind.Run)) (Some kind.Run) (
-    cond (bytes_eq word (kind_name kind.Names)) (Some kind.Names) (
-    cond (bytes_eq word (kind_name kind.Brings)) (Some kind.Brings) (None)))))
+kind_named word = named_by kind_name all_kinds word

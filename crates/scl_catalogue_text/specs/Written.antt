@@ -8,7 +8,6 @@ use Rattle.scl_catalogue.specs.declared.case.Served.{Served}
 use Rattle.scl_catalogue.specs.declared.case.Version.{Version}
 use Rattle.scl_catalogue.specs.declared.text.How.{How}
 use Rattle.scl_catalogue.specs.declared.text.How.TheVariants as how
-use Rattle.scl_catalogue_text.specs.declared.names.Kind.{Kind}
 use Rattle.scl_catalogue_text.specs.declared.names.Kind.TheVariants as kind
 
 abbrev pub all_of : List (List ℕ) → List ℕ
@@ -115,17 +114,32 @@ served_words s = compiler_name s.compiler ∷ bound_words (codes "since") s.sinc
 abbrev pub case_text : Case → List ℕ
 case_text c = 32 ∷ joined 44 (map (λ s. spaced (served_words s)) c.served) ++ 58 ∷ joined 59 (map condition_text c.conditions)
 
-abbrev pub kind_text : Kind → (name what : List ℕ) → List ℕ
-kind_text k name what = kind_name k ++ spaced (name ∷ what ∷ [])
+-- the word of an entry's head before its name
+abbrev pub head_word : Tells → List ℕ
+head_word (Hazard d) = kind_name kind.Hazard
+head_word (Effect v file) = codes "effect"
+head_word Plain = codes "plain"
+head_word (Key d) = kind_name kind.Key
+head_word (Run d) = kind_name kind.Run
+head_word (Names n) = kind_name kind.Names
+head_word (Brings b) = kind_name kind.Brings
+
+-- the words of the head behind the name
+abbrev pub words_behind : Tells → List (List ℕ)
+words_behind (Hazard d) = danger_name d ∷ []
+words_behind (Effect v file) = verb_name v ∷ file ∷ []
+words_behind Plain = []
+words_behind (Key d) = doing_name d ∷ []
+words_behind (Run d) = doing_name d ∷ []
+words_behind (Names n) = naming_name n ∷ []
+words_behind (Brings b) = brings_name b ∷ []
 
 abbrev pub head_text : Tells → List ℕ → List ℕ
-head_text (Hazard d) name = kind_text kind.Hazard name (danger_name d)
-head_text (Effect v file) name = codes "effect" ++ spaced (name ∷ verb_name v ∷ file ∷ [])
-head_text Plain name = codes "plain" ++ spaced (name ∷ [])
-head_text (Key d) name = kind_text kind.Key name (doing_name d)
-head_text (Run d) name = kind_text kind.Run name (doing_name d)
-head_text (Names n) name = kind_text kind.Names name (naming_name n)
-head_text (Brings b) name = kind_text kind.Brings name (brings_name b)
+head_text t name = head_word t ++ spaced (name ∷ words_behind t)
+
+-- what an entry states: the head without the name
+abbrev pub statement_of : Tells → List ℕ
+statement_of t = head_word t ++ spaced (words_behind t)
 
 abbrev pub entry_lines : Entry → List (List ℕ)
 entry_lines e = head_text e.tells e.name ∷ (codes "  says " ++ e.says) ∷ map case_text e.cases

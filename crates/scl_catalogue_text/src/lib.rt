@@ -11,7 +11,9 @@ mod read_condition;
 mod read_line;
 mod read_test;
 mod read_text;
+mod stated;
 
 pub use mistake::{BadLine, Mistake, ReadError};
 pub use read_case::version;
 pub use read_catalogue::read;
+pub use stated::statement;

@@ -1,9 +1,15 @@
 //! The words by which a catalogue's text names things.
-ghost use Rattle.std.specs.Prelude.{◌≡◌};
+ghost use Rattle.std.specs.Prelude.{ℕ, ◌≡◌, List};
 ghost use Rattle.std.specs.Str.{bytes_eq};
-ghost use Rattle.scl_catalogue_text.specs.Names.{brings_named, class_named, compiler_named, danger_named, doing_named, fact_named, kind_named, mark_named, naming_named, place_named, verb_named};
+ghost use Rattle.scl_catalogue_text.specs.Names.{all_brings, all_classes, all_compilers, all_dangers, all_doings, all_facts, all_kinds, all_marks, all_namings, all_places, all_verbs, brings_name, class_name, compiler_name, danger_name, doing_name, fact_name, kind_name, mark_name, naming_name, place_name, verb_name, named_by};
 
 use scl_catalogue::{Brings, Class, Compiler, Danger, Doing, Fact, Mark, Naming, Place, Verb};
+
+/// The first word of an entry that says what commands do with a file.
+pub(crate) const EFFECT: &str = "effect";
+
+/// The first word of an entry that states nothing.
+pub(crate) const PLAIN: &str = "plain";
 
 /// The entries that are a name and one word of a list.
 #[derive(Clone, Copy, Debug, PartialEq, Eq)]
@@ -22,224 +28,328 @@ pub(crate) fn is(word: &[u8], name: &str) -> bool
     word == name.as_bytes()
 }
 
-pub(crate) fn class_named(word: &[u8]) -> Option<Class>
-    ensures { result ≡ class_named word.now }
-{
-    if is(word, "option") {
-        Some(Class::Option)
-    } else if is(word, "raw") {
-        Some(Class::Raw)
-    } else if is(word, "unknown") {
-        Some(Class::Unknown)
-    } else if is(word, "flag") {
-        Some(Class::Flag)
-    } else if is(word, "kind") {
-        Some(Class::Kind)
-    } else {
-        None
+/// What has a word of a list as its name.
+pub(crate) trait Named: Copy + 'static {
+    ghost all_of: { List Self };
+
+    ghost name_of: { Self → List ℕ };
+
+    /// All that have such a name.
+    fn all() -> &'static [Self]
+        ensures { result.now ≡ all_of };
+
+    fn name(self) -> &'static str
+        ensures { result.now ≡ name_of self };
+
+    /// The first that has the word as its name.
+    final fn named(word: &[u8]) -> Option<Self>
+        ensures { result ≡ named_by name_of all_of word.now }
+    {
+        Self::all().iter().copied().find(|one| is(word, one.name()))
     }
 }
 
-pub(crate) fn mark_named(word: &[u8]) -> Option<Mark>
-    ensures { result ≡ mark_named word.now }
-{
-    if is(word, "stays") {
-        Some(Mark::Stays)
-    } else if is(word, "apart") {
-        Some(Mark::Apart)
-    } else if is(word, "joined") {
-        Some(Mark::Joined)
-    } else if is(word, "delimiter-dropped") {
-        Some(Mark::DelimiterDropped)
-    } else if is(word, "hidden-value") {
-        Some(Mark::HiddenValue)
-    } else {
-        None
+impl Named for Class {
+    ghost all_of = { all_classes };
+
+    ghost name_of = { class_name };
+
+    fn all() -> &'static [Class] {
+        &[
+            Class::Option,
+            Class::Raw,
+            Class::Unknown,
+            Class::Flag,
+            Class::Kind,
+        ]
+    }
+
+    fn name(self) -> &'static str {
+        match self {
+            Class::Option => "option",
+            Class::Raw => "raw",
+            Class::Unknown => "unknown",
+            Class::Flag => "flag",
+            Class::Kind => "kind",
+        }
     }
 }
 
-pub(crate) fn fact_named(word: &[u8]) -> Option<Fact>
-    ensures { result ≡ fact_named word.now }
-{
-    if is(word, "plusplus") {
-        Some(Fact::Plusplus)
-    } else if is(word, "apple") {
-        Some(Fact::Apple)
-    } else if is(word, "preprocessed") {
-        Some(Fact::Preprocessed)
-    } else if is(word, "other-language") {
-        Some(Fact::OtherLanguage)
-    } else if is(word, "split-otherwise") {
-        Some(Fact::SplitOtherwise)
-    } else if is(word, "environment-split-otherwise") {
-        Some(Fact::EnvironmentSplitOtherwise)
-    } else if is(word, "hidden-input") {
-        Some(Fact::HiddenInput)
-    } else if is(word, "hidden-object") {
-        Some(Fact::HiddenObject)
-    } else if is(word, "other-target") {
-        Some(Fact::OtherTarget)
-    } else if is(word, "renamed-object") {
-        Some(Fact::RenamedObject)
-    } else if is(word, "precompiled-header") {
-        Some(Fact::PrecompiledHeader)
-    } else {
-        None
+impl Named for Mark {
+    ghost all_of = { all_marks };
+
+    ghost name_of = { mark_name };
+
+    fn all() -> &'static [Mark] {
+        &[
+            Mark::Stays,
+            Mark::Apart,
+            Mark::Joined,
+            Mark::DelimiterDropped,
+            Mark::HiddenValue,
+        ]
+    }
+
+    fn name(self) -> &'static str {
+        match self {
+            Mark::Stays => "stays",
+            Mark::Apart => "apart",
+            Mark::Joined => "joined",
+            Mark::DelimiterDropped => "delimiter-dropped",
+            Mark::HiddenValue => "hidden-value",
+        }
     }
 }
 
-pub(crate) fn place_named(word: &[u8]) -> Option<Place>
-    ensures { result ≡ place_named word.now }
-{
-    if is(word, "word") {
-        Some(Place::Word)
-    } else if is(word, "file") {
-        Some(Place::File)
-    } else if is(word, "environment") {
-        Some(Place::Environment)
-    } else if is(word, "language") {
-        Some(Place::Language)
-    } else if is(word, "input") {
-        Some(Place::Input)
-    } else if is(word, "extension") {
-        Some(Place::Extension)
-    } else if is(word, "object") {
-        Some(Place::Object)
-    } else {
-        None
+impl Named for Fact {
+    ghost all_of = { all_facts };
+
+    ghost name_of = { fact_name };
+
+    fn all() -> &'static [Fact] {
+        &[
+            Fact::Plusplus,
+            Fact::Apple,
+            Fact::Preprocessed,
+            Fact::OtherLanguage,
+            Fact::SplitOtherwise,
+            Fact::EnvironmentSplitOtherwise,
+            Fact::HiddenInput,
+            Fact::HiddenObject,
+            Fact::OtherTarget,
+            Fact::RenamedObject,
+            Fact::PrecompiledHeader,
+        ]
+    }
+
+    fn name(self) -> &'static str {
+        match self {
+            Fact::Plusplus => "plusplus",
+            Fact::Apple => "apple",
+            Fact::Preprocessed => "preprocessed",
+            Fact::OtherLanguage => "other-language",
+            Fact::SplitOtherwise => "split-otherwise",
+            Fact::EnvironmentSplitOtherwise => "environment-split-otherwise",
+            Fact::HiddenInput => "hidden-input",
+            Fact::HiddenObject => "hidden-object",
+            Fact::OtherTarget => "other-target",
+            Fact::RenamedObject => "renamed-object",
+            Fact::PrecompiledHeader => "precompiled-header",
+        }
     }
 }
 
-pub(crate) fn compiler_named(word: &[u8]) -> Option<Compiler>
-    ensures { result ≡ compiler_named word.now }
-{
-    if is(word, "gcc") {
-        Some(Compiler::Gcc)
-    } else if is(word, "clang") {
-        Some(Compiler::Clang)
-    } else if is(word, "clang-cl") {
-        Some(Compiler::ClangCl)
-    } else if is(word, "cl") {
-        Some(Compiler::Cl)
-    } else if is(word, "diab") {
-        Some(Compiler::Diab)
-    } else if is(word, "tasking") {
-        Some(Compiler::Tasking)
-    } else {
-        None
+impl Named for Place {
+    ghost all_of = { all_places };
+
+    ghost name_of = { place_name };
+
+    fn all() -> &'static [Place] {
+        &[
+            Place::Word,
+            Place::File,
+            Place::Environment,
+            Place::Language,
+            Place::Input,
+            Place::Extension,
+            Place::Object,
+        ]
+    }
+
+    fn name(self) -> &'static str {
+        match self {
+            Place::Word => "word",
+            Place::File => "file",
+            Place::Environment => "environment",
+            Place::Language => "language",
+            Place::Input => "input",
+            Place::Extension => "extension",
+            Place::Object => "object",
+        }
     }
 }
 
-pub(crate) fn danger_named(word: &[u8]) -> Option<Danger>
-    ensures { result ≡ danger_named word.now }
-{
-    if is(word, "object") {
-        Some(Danger::Object)
-    } else if is(word, "failure") {
-        Some(Danger::Failure)
-    } else if is(word, "side-file") {
-        Some(Danger::SideFile)
-    } else if is(word, "messages") {
-        Some(Danger::Messages)
-    } else if is(word, "run") {
-        Some(Danger::Run)
-    } else {
-        None
+impl Named for Compiler {
+    ghost all_of = { all_compilers };
+
+    ghost name_of = { compiler_name };
+
+    fn all() -> &'static [Compiler] {
+        &[
+            Compiler::Gcc,
+            Compiler::Clang,
+            Compiler::ClangCl,
+            Compiler::Cl,
+            Compiler::Diab,
+            Compiler::Tasking,
+        ]
+    }
+
+    fn name(self) -> &'static str {
+        match self {
+            Compiler::Gcc => "gcc",
+            Compiler::Clang => "clang",
+            Compiler::ClangCl => "clang-cl",
+            Compiler::Cl => "cl",
+            Compiler::Diab => "diab",
+            Compiler::Tasking => "tasking",
+        }
     }
 }
 
-pub(crate) fn verb_named(word: &[u8]) -> Option<Verb>
-    ensures { result ≡ verb_named word.now }
-{
-    if is(word, "reads") {
-        Some(Verb::Reads)
-    } else if is(word, "writes") {
-        Some(Verb::Writes)
-    } else if is(word, "asks") {
-        Some(Verb::Asks)
-    } else if is(word, "loads") {
-        Some(Verb::Loads)
-    } else {
-        None
+impl Named for Danger {
+    ghost all_of = { all_dangers };
+
+    ghost name_of = { danger_name };
+
+    fn all() -> &'static [Danger] {
+        &[
+            Danger::Object,
+            Danger::Failure,
+            Danger::SideFile,
+            Danger::Messages,
+            Danger::Run,
+        ]
+    }
+
+    fn name(self) -> &'static str {
+        match self {
+            Danger::Object => "object",
+            Danger::Failure => "failure",
+            Danger::SideFile => "side-file",
+            Danger::Messages => "messages",
+            Danger::Run => "run",
+        }
     }
 }
 
-pub(crate) fn doing_named(word: &[u8]) -> Option<Doing>
-    ensures { result ≡ doing_named word.now }
-{
-    if is(word, "plain") {
-        Some(Doing::Plain)
-    } else if is(word, "exact") {
-        Some(Doing::Exact)
-    } else if is(word, "macros") {
-        Some(Doing::Macros)
-    } else if is(word, "writes-unnamed") {
-        Some(Doing::WritesUnnamed)
-    } else if is(word, "hides-text") {
-        Some(Doing::TextHides)
-    } else if is(word, "reads-counts") {
-        Some(Doing::ReadsCounts)
-    } else if is(word, "reads-samples") {
-        Some(Doing::ReadsSamples)
-    } else {
-        None
+impl Named for Verb {
+    ghost all_of = { all_verbs };
+
+    ghost name_of = { verb_name };
+
+    fn all() -> &'static [Verb] {
+        &[Verb::Reads, Verb::Writes, Verb::Asks, Verb::Loads]
+    }
+
+    fn name(self) -> &'static str {
+        match self {
+            Verb::Reads => "reads",
+            Verb::Writes => "writes",
+            Verb::Asks => "asks",
+            Verb::Loads => "loads",
+        }
     }
 }
 
-pub(crate) fn naming_named(word: &[u8]) -> Option<Naming>
-    ensures { result ≡ naming_named word.now }
-{
-    if is(word, "nothing") {
-        Some(Naming::Nothing)
-    } else if is(word, "debug-info") {
-        Some(Naming::DebugInfo)
-    } else if is(word, "maps-files") {
-        Some(Naming::FileMap)
-    } else if is(word, "maps-debug-info") {
-        Some(Naming::DebugMap)
-    } else if is(word, "maps-macros") {
-        Some(Naming::MacroMap)
-    } else if is(word, "anything") {
-        Some(Naming::Anything)
-    } else {
-        None
+impl Named for Doing {
+    ghost all_of = { all_doings };
+
+    ghost name_of = { doing_name };
+
+    fn all() -> &'static [Doing] {
+        &[
+            Doing::Plain,
+            Doing::Exact,
+            Doing::Macros,
+            Doing::WritesUnnamed,
+            Doing::TextHides,
+            Doing::ReadsCounts,
+            Doing::ReadsSamples,
+        ]
+    }
+
+    fn name(self) -> &'static str {
+        match self {
+            Doing::Plain => "plain",
+            Doing::Exact => "exact",
+            Doing::Macros => "macros",
+            Doing::WritesUnnamed => "writes-unnamed",
+            Doing::TextHides => "hides-text",
+            Doing::ReadsCounts => "reads-counts",
+            Doing::ReadsSamples => "reads-samples",
+        }
     }
 }
 
-pub(crate) fn brings_named(word: &[u8]) -> Option<Brings>
-    ensures { result ≡ brings_named word.now }
-{
-    if is(word, "folder") {
-        Some(Brings::Folder)
-    } else if is(word, "header") {
-        Some(Brings::Header)
-    } else if is(word, "macro-file") {
-        Some(Brings::MacroFile)
-    } else if is(word, "other") {
-        Some(Brings::Other)
-    } else if is(word, "dependencies") {
-        Some(Brings::Dependencies)
-    } else if is(word, "unknown") {
-        Some(Brings::Unknown)
-    } else {
-        None
+impl Named for Naming {
+    ghost all_of = { all_namings };
+
+    ghost name_of = { naming_name };
+
+    fn all() -> &'static [Naming] {
+        &[
+            Naming::Nothing,
+            Naming::DebugInfo,
+            Naming::FileMap,
+            Naming::DebugMap,
+            Naming::MacroMap,
+            Naming::Anything,
+        ]
+    }
+
+    fn name(self) -> &'static str {
+        match self {
+            Naming::Nothing => "nothing",
+            Naming::DebugInfo => "debug-info",
+            Naming::FileMap => "maps-files",
+            Naming::DebugMap => "maps-debug-info",
+            Naming::MacroMap => "maps-macros",
+            Naming::Anything => "anything",
+        }
     }
 }
 
-pub(crate) fn kind_named(word: &[u8]) -> Option<Kind>
-    ensures { result ≡ kind_named word.now }
-{
-    if is(word, "hazard") {
-        Some(Kind::Hazard)
-    } else if is(word, "key") {
-        Some(Kind::Key)
-    } else if is(word, "run") {
-        Some(Kind::Run)
-    } else if is(word, "names") {
-        Some(Kind::Names)
-    } else if is(word, "brings") {
-        Some(Kind::Brings)
-    } else {
-        None
+impl Named for Brings {
+    ghost all_of = { all_brings };
+
+    ghost name_of = { brings_name };
+
+    fn all() -> &'static [Brings] {
+        &[
+            Brings::Folder,
+            Brings::Header,
+            Brings::MacroFile,
+            Brings::Other,
+            Brings::Dependencies,
+            Brings::Unknown,
+        ]
+    }
+
+    fn name(self) -> &'static str {
+        match self {
+            Brings::Folder => "folder",
+            Brings::Header => "header",
+            Brings::MacroFile => "macro-file",
+            Brings::Other => "other",
+            Brings::Dependencies => "dependencies",
+            Brings::Unknown => "unknown",
+        }
+    }
+}
+
+impl Named for Kind {
+    ghost all_of = { all_kinds };
+
+    ghost name_of = { kind_name };
+
+    fn all() -> &'static [Kind] {
+        &[
+            Kind::Hazard,
+            Kind::Key,
+            Kind::Run,
+            Kind::Names,
+            Kind::Brings,
+        ]
+    }
+
+    fn name(self) -> &'static str {
+        match self {
+            Kind::Hazard => "hazard",
+            Kind::Key => "key",
+            Kind::Run => "run",
+            Kind::Names => "names",
+            Kind::Brings => "brings",
+        }
     }
 }

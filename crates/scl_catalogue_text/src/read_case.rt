@@ -6,7 +6,7 @@ ghost use Rattle.scl_catalogue_text.specs.Reading.{all_served, bound_read, case_
 
 use crate::cut::{cut_at, is_one_part, next_word, parts, words};
 use crate::mistake::{Mistake, Part, Stop};
-use crate::names::{compiler_named, is};
+use crate::names::{Named, is};
 use crate::read_condition::conditions;
 use scl_catalogue::{Case, Compiler, Group, Served, Version};
 use std::alloc::Global;
@@ -119,7 +119,7 @@ fn served_of(words: &[&[u8]]) -> Part<Served>
     let Some((name, others)) = words.split_first() else {
         return Err(Stop::Mistake(Mistake::UnknownCompiler));
     };
-    let Some(compiler) = compiler_named(name) else {
+    let Some(compiler) = Compiler::named(name) else {
         return Err(Stop::Mistake(Mistake::UnknownCompiler));
     };
     served_by(compiler, others)
@@ -130,7 +130,7 @@ fn served_of(words: &[&[u8]]) -> Part<Served>
 fn served_always(name: &[u8]) -> Part<Served>
     ensures { Reads (λ served. served) result (served_of_words (name.now ∷ [])) }
 {
-    match compiler_named(name) {
+    match Compiler::named(name) {
         Some(compiler) => Ok(Served {
             compiler,
             since: None,

@@ -6,10 +6,10 @@ ghost use Rattle.scl_catalogue_text.specs.Reading.{condition_by, condition_read,
 
 use crate::cut::{first_word, has_word, is_one_part, parts};
 use crate::mistake::{Mistake, Part, Stop};
-use crate::names::{fact_named, is, place_named};
+use crate::names::{Named, is};
 use crate::read_test::group;
 use crate::read_text::text;
-use scl_catalogue::{Condition, Group, Question, Relation};
+use scl_catalogue::{Condition, Fact, Group, Place, Question, Relation};
 use std::alloc::Global;
 
 /// Whether a relation has this name.
@@ -105,14 +105,14 @@ fn relation(alloc: Global, groups: &[Group], name: &[u8], bytes: &[u8]) -> Part<
 fn question(alloc: Global, groups: &[Group], word: &[u8], others: &[u8]) -> Part<Question>
     ensures { Reads question_of result (question_by (map group_of groups.now) word.now others.now) }
 {
-    if let Some(fact) = fact_named(word) {
+    if let Some(fact) = Fact::named(word) {
         return if has_word(others) {
             Err(Stop::Mistake(Mistake::TooManyWords))
         } else {
             Ok(Question::Is(fact))
         };
     }
-    if let Some(place) = place_named(word) {
+    if let Some(place) = Place::named(word) {
         let text = text(alloc, others)?;
         return Ok(Question::At(place, text));
     }

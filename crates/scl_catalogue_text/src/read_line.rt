@@ -9,12 +9,10 @@ ghost use Rattle.scl_catalogue_text.specs.SaidViews.{said_of};
 use crate::cut::{cut_at, first_word, has_word, words};
 use crate::file::check_file;
 use crate::mistake::{Mistake, Part, Stop};
-use crate::names::{
-    Kind, brings_named, danger_named, doing_named, is, kind_named, naming_named, verb_named,
-};
+use crate::names::{EFFECT, Kind, Named, PLAIN, is};
 use crate::read_case::case;
 use crate::read_test::{group_named, tests};
-use scl_catalogue::{Case, Group, Tells};
+use scl_catalogue::{Brings, Case, Danger, Doing, Group, Naming, Tells, Verb};
 use std::alloc::Global;
 
 /// What a line says.
@@ -42,7 +40,7 @@ fn effect(alloc: Global, words: &[&[u8]]) -> Part<Said>
     let [name, verb, file] = words else {
         return Err(Stop::Mistake(Mistake::WrongEntry));
     };
-    let Some(verb) = verb_named(verb) else {
+    let Some(verb) = Verb::named(verb) else {
         return Err(Stop::Mistake(Mistake::UnknownVerb));
     };
     check_file(alloc, file)?;
@@ -67,11 +65,11 @@ fn tells_named(kind: Kind, what: &[u8]) -> Option<Tells>
     ensures { option_map tells_of result ≡ tells_named kind what.now }
 {
     match kind {
-        Kind::Hazard => Some(Tells::Hazard(danger_named(what)?)),
-        Kind::Key => Some(Tells::Key(doing_named(what)?)),
-        Kind::Run => Some(Tells::Run(doing_named(what)?)),
-        Kind::Names => Some(Tells::Names(naming_named(what)?)),
-        Kind::Brings => Some(Tells::Brings(brings_named(what)?)),
+        Kind::Hazard => Some(Tells::Hazard(Danger::named(what)?)),
+        Kind::Key => Some(Tells::Key(Doing::named(what)?)),
+        Kind::Run => Some(Tells::Run(Doing::named(what)?)),
+        Kind::Names => Some(Tells::Names(Naming::named(what)?)),
+        Kind::Brings => Some(Tells::Brings(Brings::named(what)?)),
     }
 }
 
@@ -177,15 +175,15 @@ fn line_named(
     if is(word, "group") {
         return group(alloc, groups, others);
     }
-    if is(word, "effect") {
+    if is(word, EFFECT) {
         let words = words(alloc, others)?;
         return effect(alloc, &words);
     }
-    if is(word, "plain") {
+    if is(word, PLAIN) {
         let words = words(alloc, others)?;
         return named(alloc, Tells::Plain, &words);
     }
-    line_of_kind(alloc, groups, kind_named(word), others, line)
+    line_of_kind(alloc, groups, Kind::named(word), others, line)
 }
 
 fn is_comment(line: &[u8]) -> bool

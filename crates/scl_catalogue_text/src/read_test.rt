@@ -8,9 +8,9 @@ ghost use Rattle.scl_catalogue_text.specs.Reading.{demand_by, demand_read, group
 
 use crate::cut::{first_word, has_word, is_one_part, next_word, parts};
 use crate::mistake::{Mistake, Part, Stop};
-use crate::names::{class_named, is, mark_named};
+use crate::names::{Named, is};
 use crate::read_text::text;
-use scl_catalogue::{Demand, Group, Test};
+use scl_catalogue::{Class, Demand, Group, Mark, Test};
 use std::alloc::Global;
 
 #[tactic(auto, unfolding(crate::specs::Reading::demand_by))]
@@ -25,7 +25,7 @@ fn demand_named(alloc: Global, word: &[u8], others: &[u8]) -> Part<Demand>
         let text = text(alloc, others)?;
         return Ok(Demand::Part(text));
     }
-    let Some(mark) = mark_named(word) else {
+    let Some(mark) = Mark::named(word) else {
         return Err(Stop::Mistake(Mistake::UnknownDemand));
     };
     if has_word(others) {
@@ -59,7 +59,7 @@ fn test_of(alloc: Global, first: &[u8], others: &[&[u8]]) -> Part<Test>
     ensures { Reads test_of result (test_by first.now (map (λ part. part.now) others.now)) }
 {
     let (word, names) = first_word(first);
-    let Some(class) = class_named(word) else {
+    let Some(class) = Class::named(word) else {
         return Err(Stop::Mistake(Mistake::UnknownClass));
     };
     let names = text(alloc, names)?;

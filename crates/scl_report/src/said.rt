@@ -1,80 +1,15 @@
 //! What a catalogue says of a word of a command line.
 use crate::table::Table;
-use scl_catalogue::{
-    Brings, Catalogue, Doing, Entry, Level, Marks, Naming, Seen, Standing, Tells, Verb,
-};
+use scl_catalogue::{Catalogue, Entry, Level, Marks, Seen, Standing, Tells};
+use scl_catalogue_text::statement;
 use scl_cl::{CommandLine, Compiler, Limits, Mem, Reading, TooManyWords, View};
 use scl_describe::{catalogued, options_seen};
 use scl_description::{RowList, tell_row};
-use scl_hazards::danger_name;
 use scl_shell::shown;
 use std::alloc::Global;
 
 /// A value for an option that lacks one.
 const VALUE: &[u8] = b"x";
-
-fn verb_name(verb: Verb) -> &'static str {
-    match verb {
-        Verb::Reads => "reads",
-        Verb::Writes => "writes",
-        Verb::Asks => "asks",
-        Verb::Loads => "loads",
-    }
-}
-
-fn doing_name(doing: Doing) -> &'static str {
-    match doing {
-        Doing::Plain => "plain",
-        Doing::Exact => "exact",
-        Doing::Macros => "macros",
-        Doing::WritesUnnamed => "writes-unnamed",
-        Doing::TextHides => "hides-text",
-        Doing::ReadsCounts => "reads-counts",
-        Doing::ReadsSamples => "reads-samples",
-    }
-}
-
-fn naming_name(naming: Naming) -> &'static str {
-    match naming {
-        Naming::Nothing => "nothing",
-        Naming::DebugInfo => "debug-info",
-        Naming::FileMap => "maps-files",
-        Naming::DebugMap => "maps-debug-info",
-        Naming::MacroMap => "maps-macros",
-        Naming::Anything => "anything",
-    }
-}
-
-fn brings_name(brings: Brings) -> &'static str {
-    match brings {
-        Brings::Folder => "folder",
-        Brings::Header => "header",
-        Brings::MacroFile => "macro-file",
-        Brings::Other => "other",
-        Brings::Dependencies => "dependencies",
-        Brings::Unknown => "unknown",
-    }
-}
-
-/// What an entry states, in the words of a catalogue's text without its name.
-fn statement(alloc: Global, tells: &Tells) -> Mem<Vec<u8>> {
-    let (kind, what) = match tells {
-        Tells::Hazard(danger) => ("hazard ", danger_name(*danger)),
-        Tells::Effect(verb, _) => ("effect ", verb_name(*verb)),
-        Tells::Plain => ("plain", ""),
-        Tells::Key(doing) => ("key ", doing_name(*doing)),
-        Tells::Run(doing) => ("run ", doing_name(*doing)),
-        Tells::Names(naming) => ("names ", naming_name(*naming)),
-        Tells::Brings(brings) => ("brings ", brings_name(*brings)),
-    };
-    let mut text = Vec::from_slice(alloc, kind.as_bytes())?;
-    text.extend_from_slice(what.as_bytes())?;
-    if let Tells::Effect(_, file) = tells {
-        text.push(b' ')?;
-        text.extend_from_slice(file)?;
-    }
-    Ok(text)
-}
 
 /// The word read alone, with a value behind it in case its option wants one.
 fn read_alone(
