@@ -1,5 +1,5 @@
 -- A text as an assembler reads it: what escapes stand for, and strings that stand side by side as one.
-use Rattle.std.specs.Prelude.{ℕ, zero, suc, ◌+◌, ◌-◌, ◌*◌, ◌%◌, ◌==◌, ◌&&◌, ◌||◌, nat_eq, nat_le, Bool, List, [], ◌∷◌, ◌++◌, map, take, drop, codes, Option, None, Some, if◌then◌else◌}
+use Rattle.std.specs.Prelude.{ℕ, zero, suc, ◌+◌, ◌-◌, ◌*◌, ◌%◌, ◌==◌, ◌&&◌, ◌||◌, not, nat_eq, nat_le, Bool, List, [], ◌∷◌, ◌++◌, map, take, drop, codes, Option, None, Some, if◌then◌else◌}
 use Rattle.std.specs.List.{list_any, prefix_len, starts_with}
 use Rattle.std.specs.Option.{option_map_or, option_to_list}
 use Rattle.scl_readings.specs.Lines.{is_space}
@@ -17,8 +17,14 @@ use Rattle.scl_patterns.specs.declared.assembled.Stands.{Stands}
 abbrev pub is_hex : ℕ → Bool
 is_hex byte = is_digit byte || ((nat_le 0x61 byte && nat_le byte 0x66) || (nat_le 0x41 byte && nat_le byte 0x46))
 
+-- what may stand between the parts of a directive: neither visible ASCII nor the end of a line
+abbrev pub is_gap : ℕ → Bool
+is_gap byte = not (byte == 0xa || (nat_le 0x21 byte && nat_le byte 0x7e))
+
 abbrev pub is_in : Class → ℕ → Bool
 is_in classes.White byte = byte == 0xa || is_space byte
+is_in classes.Space byte = is_space byte
+is_in classes.Gap byte = is_gap byte
 is_in classes.Hex byte = is_hex byte
 is_in classes.Zero byte = byte == 0x30
 is_in classes.Octal byte = is_octal byte

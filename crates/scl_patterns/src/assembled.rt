@@ -13,6 +13,10 @@ use std::alloc::Global;
 pub(crate) enum Class {
     /// White space.
     White,
+    /// White space within a line.
+    Space,
+    /// What may stand between the parts of a directive.
+    Gap,
     /// Digits of base 16.
     Hex,
     /// Zeros.
@@ -64,6 +68,8 @@ pub(crate) fn is_in(class: Class, byte: u8) -> bool
 {
     match class {
         Class::White => matches!(byte, b'\n' | b' ' | b'\t' | 0xB | 0xC | b'\r'),
+        Class::Space => matches!(byte, b' ' | b'\t' | 0xB | 0xC | b'\r'),
+        Class::Gap => byte != b'\n' && (byte < 0x21 || 0x7E < byte),
         Class::Hex => is_hex(byte),
         Class::Zero => byte == b'0',
         Class::Octal => b'0' <= byte && byte <= b'7',

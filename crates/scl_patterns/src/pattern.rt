@@ -166,7 +166,7 @@ pub(crate) fn is_among(byte: u8, known: &[u8]) -> bool
 }
 
 /// Whether there is a byte, and it is none of these.
-fn other_than(known: &[u8], text: &[u8]) -> bool
+pub(crate) fn other_than(known: &[u8], text: &[u8]) -> bool
     ensures { result ≡ other_than known.now text.now }
 {
     match text {
