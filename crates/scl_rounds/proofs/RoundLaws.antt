@@ -10,27 +10,31 @@ use Rattle.scl_key.specs.declared.part.Ask.TheVariants as asks
 use Rattle.scl_key.specs.Parts.{Part, is, output, directory, compiler, plan, asked, run, run_else, pch, sources, times}
 use Rattle.scl_lookup.specs.Keys.{Row, said, all_there, ran_on, unfailed}
 use Rattle.scl_lookup.specs.Lists.{Agree}
-use Rattle.scl_lookup.specs.Questions.{Question, env, program, file, bytes, names as names_in, real, times as stamp_of, run as run_asked, Standing, regular, folder, special, missing, Written, Machine}
+use Rattle.scl_lookup.specs.Questions.{Question, env, program, file, bytes, names as names_in, real, run as run_asked, Standing, regular, folder, special, missing, Written, Machine}
 use Rattle.scl_questions.specs.Rounds.{joined, was_asked, with_one}
 use Rattle.scl_questions.specs.Same.{same}
 use Rattle.scl_questions.specs.Talks.{AreDecided, ends, value_on}
 use Rattle.scl_questions.specs.Told.{value_told, unset_told, file_told, maybe_told, regular_told, program_told}
 use Rattle.scl_questions.proofs.SameLaws.{same_one}
 use Rattle.scl_questions.proofs.TalkLaws.{talks_end}
-use Rattle.scl_rounds.specs.Answers.{answer_asked, answer_on, directory_by, directory_on, row_by, refused_told, row_on, rows_on, said_directory, told_if}
+use Rattle.scl_rounds.specs.Answers.{answer_asked, answer_on, directory_by, directory_on, outcome_by, outcome_on, row_by, refused_told, row_on, rows_on, said_directory, told_if, Outcome}
 use Rattle.scl_rounds.specs.declared.question.Detail.{Detail}
 use Rattle.scl_rounds.specs.declared.question.Detail.TheVariants as details
 use Rattle.scl_rounds.specs.declared.question.Phase.TheVariants as phases
-use Rattle.scl_rounds.specs.Files.{file_row, files_told, in_one, is_regular, times_by, times_row, times_told}
+use Rattle.scl_rounds.specs.declared.file.Flaw.{Flaw}
+use Rattle.scl_rounds.specs.declared.file.Flaw.TheVariants as flaws
+use Rattle.scl_rounds.specs.Files.{any_flawed, file_row, files_told, has_flaw, in_one, is_regular, times_by, times_row, times_told}
 use Rattle.scl_rounds.specs.Headers.{all_inside, any_there, folder_of, folders_by, folders_in, headers_told, included_as, inside, is_folder, is_there, leading_in, named, places, places_by, words_told}
-use Rattle.scl_rounds.specs.Keys.{Key, asks_early, is_early, is_made}
+use Rattle.scl_rounds.specs.Keys.{Key, asks_early, headers_named, is_early, is_made, searches, variables}
+use Rattle.scl_rounds.specs.Listings.{all_regular, any_hides, beside_by, beside_on, candidates, candidates_by, candidates_from, has_loose, hides_by as hides_name, is_searched, names_by, names_on, naming}
 use Rattle.scl_patterns.specs.Patterns.{is_shown}
 use Rattle.scl_rounds.specs.Plans.{asked_plan, called_in, cleaned, files_in_plan, plan_told, planned_on, program_row, programs_told, there_by, there_row, there_told}
 use Rattle.scl_patterns.specs.Refusals.{is_refused}
-use Rattle.scl_rounds.specs.Rounds.{asked_run, behind_said, called, called_by_plan, detail_asked, detail_by, details_asked, fifth, fifth_asked, first, first_asked, fourth, loaded_by, needed, needed_asked, needed_by, needed_if, rounds, second, sixth, stage, third, RoundsGiveRows}
-use Rattle.scl_rounds.specs.Runs.{fails, has_failed, loaded_in, may_fail, names_sources, no_text, outputs_told, run_told}
-use Rattle.scl_rounds.specs.Searches.{all_folders_on, asked_search, folders_on, folders_written}
-use Rattle.scl_rounds.specs.Shown.{all_sources, content_at, each_once, input_of, marked, marked_in, searched, shown, shown_by, text_on, unmarked}
+use Rattle.scl_rounds.specs.declared.question.Phase.{Phase}
+use Rattle.scl_rounds.specs.Rounds.{asked_in, asked_run, behind_said, called, called_by_plan, detail_asked, detail_by, details_asked, fifth, fifth_asked, first, first_asked, fourth, listed_files, listed_in, needed, needed_asked, needed_by, needed_if, read_by, rounds, second, sixth, stage, third, RoundsGiveRows}
+use Rattle.scl_rounds.specs.Runs.{entered_in, fails, has_failed, is_fleeting, is_sound, loaded_in, marked_in, may_fail, names_sources, no_text, outputs_told, run_told}
+use Rattle.scl_rounds.specs.Searches.{all_folders_on, are_all_named, asked_search, folders_on, folders_written, names_all}
+use Rattle.scl_rounds.specs.Shown.{all_sources, content_at, each_once, input_of, marked, searched, shown, shown_by, text_on, unmarked}
 use Rattle.scl_rounds.specs.Vain.{forbids, hides, hides_by, hides_else, is_forbidden, is_hidden, is_hidden_else}
 
 -- ---- what both answer alike
@@ -252,12 +256,12 @@ places_from key texts folders others searched =
     (each_once (named (codes "folder") searched ++ map folder_of them ++ map folder_of (named (codes "beside") searched) ++ folders ++ others))
     (each_once (flat_map included_as them)) (them ++ each_once (flat_map marked_in texts))
 
-places_one : (key : Key) (w m : Machine) (searched : List (List ℕ)) → shown key w ≡ shown key m → Agree w m (map env (named (codes "variable") searched)) → Agree w m (map asked_search key.searches)
+places_one : (key : Key) (w m : Machine) (searched : List (List ℕ)) → shown key w ≡ shown key m → Agree w m (map env (named (codes "variable") searched)) → Agree w m (map asked_search (searches key))
     → places key w searched ≡ places key m searched
 places_one key w m searched e h k =
-    ap (λ texts. places_from key texts (folders_by w (named (codes "variable") searched)) (all_folders_on w key.searches) searched) e
-    ∙ ap (λ folders. places_from key (shown key m) folders (all_folders_on w key.searches) searched) (folders_by_one w m (named (codes "variable") searched) h)
-    ∙ ap (λ others. places_from key (shown key m) (folders_by m (named (codes "variable") searched)) others searched) (searches_one w m key.searches k)
+    ap (λ texts. places_from key texts (folders_by w (named (codes "variable") searched)) (all_folders_on w (searches key)) searched) e
+    ∙ ap (λ folders. places_from key (shown key m) folders (all_folders_on w (searches key)) searched) (folders_by_one w m (named (codes "variable") searched) h)
+    ∙ ap (λ others. places_from key (shown key m) (folders_by m (named (codes "variable") searched)) others searched) (searches_one w m (searches key) k)
 
 -- ---- what the runs name
 
@@ -277,8 +281,8 @@ needed_one key w m e directory own h k = refl
 needed_one key w m e compiler own h k = refl
 needed_one key w m e (plan words) own h k = ap (λ it. needed_by key (unfailed it)) k.0
 needed_one key w m e (asked ask name) own h k = needed_asked_one key w m e ask name
-needed_one key w m e (run words) own h k = ap loaded_by own
-needed_one key w m e (run_else words) own h k = ap loaded_by own
+needed_one key w m e (run words) own h k = ap read_by own
+needed_one key w m e (run_else words) own h k = ap read_by own
 needed_one key w m e (pch searched) own h k = places_one key w m searched e h k
 needed_one key w m e sources own h k = ap (λ texts. each_once (flat_map marked_in texts ++ filter_map input_of key.parts)) e
 needed_one key w m e times own h k = ap (λ texts. each_once (flat_map marked_in texts)) e
@@ -385,16 +389,32 @@ times_one w m (name ∷ names) h k =
     ap (λ row. option_map (λ values. values.0 ∷ values.1) (option_zip row (all_there (map (times_row w) names)))) (ap (times_by w name) h.0 ∙ times_by_one w m name (m (file name)) it.0)
     ∙ ap (λ rows. option_map (λ values. values.0 ∷ values.1) (option_zip (times_row m name) rows)) (times_one w m names h.1 it.1)
 
-loads_one : (w m : Machine) (may : Bool) (it : Option Written) → Agree w m (map file (loaded_by (option_map (λ it. it.output) it))) → run_told w may it ≡ run_told m may it
-loads_one w m may None h = refl
-loads_one w m may (Some it) h =
-    ap (λ rows. cond (names_sources it.output) (option_map (λ headers. outputs_told it ++ headers) (option_map in_one rows)) None) (files_one w m (loaded_in it.output) h)
+agree_apart : (w m : Machine) (paths more : List (List ℕ)) → Agree w m (map file (paths ++ more)) → Agree w m (map file paths) × Agree w m (map file more)
+agree_apart w m [] more h = (tt, h)
+agree_apart w m (path ∷ paths) more h = let rest = agree_apart w m paths more h.1 in ((h.0, rest.0), rest.1)
 
-run_one : (w m : Machine) (words : List (List ℕ)) (may : Bool) → w (run_asked [] words) ≡ m (run_asked [] words) → Agree w m (map file (loaded_by (text_on m words)))
+flaws_one : (flaw : Flaw) (w m : Machine) (names : List (List ℕ)) → Agree w m (map file names) → any_flawed flaw w names ≡ any_flawed flaw m names
+flaws_one flaw w m [] h = refl
+flaws_one flaw w m (name ∷ names) h = ap (λ it. has_flaw flaw it || any_flawed flaw w names) h.0 ∙ ap (λ b. has_flaw flaw (m (file name)) || b) (flaws_one flaw w m names h.1)
+
+sound_one : (w m : Machine) (text : List ℕ) → Agree w m (map file (marked_in text)) → Agree w m (map file (entered_in text)) → is_sound w text ≡ is_sound m text
+sound_one w m text h k =
+    ap (λ b. names_sources text && not (b || any_flawed flaws.Gone w (entered_in text))) (flaws_one flaws.Special w m (marked_in text) h)
+    ∙ ap (λ b. names_sources text && not (any_flawed flaws.Special m (marked_in text) || b)) (flaws_one flaws.Gone w m (entered_in text) k)
+
+reads_one : (w m : Machine) (may : Bool) (it : Option Written) → Agree w m (map file (read_by (option_map (λ it. it.output) it))) → run_told w may it ≡ run_told m may it
+reads_one w m may None h = refl
+reads_one w m may (Some it) h =
+    let both = agree_apart w m (loaded_in it.output ++ marked_in it.output) (entered_in it.output) h in
+    let named = agree_apart w m (loaded_in it.output) (marked_in it.output) both.0 in
+    ap (λ b. cond b (option_map (λ headers. outputs_told it ++ headers) (files_told w (loaded_in it.output))) None) (sound_one w m it.output named.1 both.1)
+    ∙ ap (λ rows. cond (is_sound m it.output) (option_map (λ headers. outputs_told it ++ headers) (option_map in_one rows)) None) (files_one w m (loaded_in it.output) named.0)
+
+run_one : (w m : Machine) (words : List (List ℕ)) (may : Bool) → w (run_asked [] words) ≡ m (run_asked [] words) → Agree w m (map file (read_by (text_on m words)))
     → run_told w may (ran_on w words) ≡ run_told m may (ran_on m words)
-run_one w m words may h k = ap (λ it. run_told w may (unfailed it)) h ∙ loads_one w m may (ran_on m words) k
+run_one w m words may h k = ap (λ it. run_told w may (unfailed it)) h ∙ reads_one w m may (ran_on m words) k
 
-else_one : (w m : Machine) (words : List (List ℕ)) (b : Bool) → Agree w m (cond b (asked_run words) []) → Agree w m (map file (loaded_by (cond b (text_on m words) None)))
+else_one : (w m : Machine) (words : List (List ℕ)) (b : Bool) → Agree w m (cond b (asked_run words) []) → Agree w m (map file (read_by (cond b (text_on m words) None)))
     → cond b (run_told w false (ran_on w words)) (Some no_text) ≡ cond b (run_told m false (ran_on m words)) (Some no_text)
 else_one w m words true h k = run_one w m words false h.0 k
 else_one w m words false h k = refl
@@ -473,6 +493,87 @@ headers_one key w m paths n o p =
     ∙ ap (λ rows. cond (any_there m paths) (option_map (λ files. words_told key ∷ files) (option_map in_one rows)) (Some []))
     (files_one w m (paths ++ all_inside m paths) (agree_more w m paths (all_inside m paths) n p))
 
+-- ---- lists
+
+naming_one : (key : Key) (w m : Machine) → shown key w ≡ shown key m → naming key w ≡ naming key m
+naming_one key w m t = ap (λ texts. each_once (each_once (flat_map marked_in texts ++ filter_map input_of key.parts) ++ headers_named key)) t
+
+content_one : (w m : Machine) (name : List ℕ) → w (file name) ≡ m (file name) → Agree w m (detail_asked details.Content m name) → content_at w name ≡ content_at m name
+content_one w m name h k = ap (λ it. cond (is_regular it) (w (bytes name)) None) h ∙ content_by_one w m name (m (file name)) k
+
+by_content_one : (f : List ℕ → Option (List ℕ) → List (List ℕ)) (w m : Machine) (names : List (List ℕ)) → Agree w m (map file names) → Agree w m (details_asked details.Content m names)
+    → flat_map (λ name. f name (content_at w name)) names ≡ flat_map (λ name. f name (content_at m name)) names
+by_content_one f w m [] h k = refl
+by_content_one f w m (name ∷ names) h k =
+    let it = agree_both w m (detail_asked details.Content m name) (details_asked details.Content m names) k in
+    ap (λ text. f name text ++ flat_map (λ name. f name (content_at w name)) names) (content_one w m name h.0 it.0)
+    ∙ ap (λ rest. f name (content_at m name) ++ rest) (by_content_one f w m names h.1 it.1)
+
+candidates_one : (key : Key) (w m : Machine) → shown key w ≡ shown key m → Agree w m (map asked_search (searches key)) → Agree w m (map file (naming key m)) → Agree w m (details_asked details.Content m (naming key m))
+    → candidates key w ≡ candidates key m
+candidates_one key w m t k n o =
+    let files = naming key m in
+    let headers = headers_named key in
+    ap (candidates_from key w) (naming_one key w m t)
+    ∙ ap (λ folders. candidates_by folders (headers ++ flat_map (names_on w) files) (flat_map (beside_on w) files)) (searches_one w m (searches key) k)
+    ∙ ap (λ names. candidates_by (all_folders_on m (searches key)) (headers ++ names) (flat_map (beside_on w) files)) (by_content_one (λ name text. names_by text) w m files n o)
+    ∙ ap (candidates_by (all_folders_on m (searches key)) (headers ++ flat_map (names_on m) files)) (by_content_one beside_by w m files n o)
+
+files_listed_one : (key : Key) (w m : Machine) (b : Bool) → shown key w ≡ shown key m → cond b (listed_files key phases.Files w) [] ≡ cond b (listed_files key phases.Files m) []
+files_listed_one key w m b t =
+    ap (λ texts. let files = each_once (flat_map marked_in texts ++ filter_map input_of key.parts) in cond b (map file files ++ map file (each_once (files ++ headers_named key))) []) t
+
+-- where the files that name others are answered alike
+record AreNamed (key : Key) (w m : Machine) : Type 0 where
+  files : Agree w m (map file (all_sources key m))
+  names : Agree w m (map file (naming key m))
+
+are_named : (key : Key) (w m : Machine) → Agree w m (listed_files key phases.Files m) → AreNamed key w m
+are_named key w m n = let it = agree_both w m (map file (all_sources key m)) (map file (naming key m)) n in record { files = it.0; names = it.1 }
+
+details_listed_one : (key : Key) (w m : Machine) (b : Bool) → shown key w ≡ shown key m → Agree w m (cond b (listed_files key phases.Files m) [])
+    → cond b (listed_files key phases.Details w) [] ≡ cond b (listed_files key phases.Details m) []
+details_listed_one key w m true t n = ap (details_asked details.Content w) (naming_one key w m t) ∙ details_one details.Content w m (naming key m) (are_named key w m n).names
+details_listed_one key w m false t n = refl
+
+inside_listed_one : (key : Key) (w m : Machine) (b : Bool) → shown key w ≡ shown key m → Agree w m (map asked_search (searches key)) → Agree w m (cond b (listed_files key phases.Files m) [])
+    → Agree w m (cond b (listed_files key phases.Details m) []) → cond b (listed_files key phases.Inside w) [] ≡ cond b (listed_files key phases.Inside m) []
+inside_listed_one key w m true t k n o =
+    ap (λ folders. map real folders ++ map file (candidates key w)) (searches_one w m (searches key) k)
+    ∙ ap (λ paths. map real (all_folders_on m (searches key)) ++ map file paths) (candidates_one key w m t k (are_named key w m n).names o)
+inside_listed_one key w m false t k n o = refl
+
+regular_one : (w m : Machine) (names : List (List ℕ)) → Agree w m (map file names) → all_regular w names ≡ all_regular m names
+regular_one w m [] h = refl
+regular_one w m (name ∷ names) h = ap (λ it. is_regular it && all_regular w names) h.0 ∙ ap (λ b. is_regular (m (file name)) && b) (regular_one w m names h.1)
+
+any_hides_one : (w m : Machine) (names : List (List ℕ)) → Agree w m (map file names) → Agree w m (details_asked details.Content m names) → any_hides w names ≡ any_hides m names
+any_hides_one w m [] h k = refl
+any_hides_one w m (name ∷ names) h k =
+    let it = agree_both w m (detail_asked details.Content m name) (details_asked details.Content m names) k in
+    ap (λ text. hides_name text || any_hides w names) (content_one w m name h.0 it.0) ∙ ap (λ b. hides_name (content_at m name) || b) (any_hides_one w m names h.1 it.1)
+
+all_named_one : (w m : Machine) (searches : List (List (List ℕ))) → Agree w m (map asked_search searches) → are_all_named w searches ≡ are_all_named m searches
+all_named_one w m [] h = refl
+all_named_one w m (words ∷ searches) h = ap (λ it. names_all (unfailed it) && are_all_named w searches) h.0 ∙ ap (λ b. names_all (unfailed (m (asked_search words))) && b) (all_named_one w m searches h.1)
+
+-- what is left of `is_listed` where the compiler names the folders
+abbrev listed_rest : Key → (are_named are_regular hides : Bool) → Bool
+listed_rest key are_named are_regular hides = not (list_any has_loose key.parts) && (are_named && (are_regular && not hides))
+
+abbrev listed_on : Key → Machine → (files names : List (List ℕ)) → Bool
+listed_on key m files names = listed_rest key (are_all_named m (searches key)) (all_regular m files) (any_hides m names)
+
+listed_one : (key : Key) (w m : Machine) (b : Bool) → shown key w ≡ shown key m → Agree w m (map asked_search (searches key)) → Agree w m (cond b (listed_files key phases.Files m) [])
+    → Agree w m (cond b (listed_files key phases.Details m) []) → (b && listed_on key w (all_sources key w) (naming key w)) ≡ (b && listed_on key m (all_sources key m) (naming key m))
+listed_one key w m true t k n o =
+    let it = are_named key w m n in
+    ap (λ texts. let files = each_once (flat_map marked_in texts ++ filter_map input_of key.parts) in listed_on key w files (each_once (files ++ headers_named key))) t
+    ∙ ap (λ b. listed_rest key b (all_regular w (all_sources key m)) (any_hides w (naming key m))) (all_named_one w m (searches key) k)
+    ∙ ap (λ b. listed_rest key (are_all_named m (searches key)) b (any_hides w (naming key m))) (regular_one w m (all_sources key m) it.files)
+    ∙ ap (listed_rest key (are_all_named m (searches key)) (all_regular m (all_sources key m))) (any_hides_one w m (naming key m) it.names o)
+listed_one key w m false t k n o = refl
+
 -- ---- all answers
 
 -- both answer alike what each round asks for these parts
@@ -549,93 +650,130 @@ is_hidden_else_one key w m k l = any_one w m (third key m) (hides_else key w) (h
 
 -- ---- what was asked before a round, and is answered alike
 
+-- all that a round asks
+abbrev all_asked : Key → Phase → Machine → List Question
+all_asked key phase m = flat_map (asked_in key phase m) key.parts ++ listed_in key phase m
+
 -- in three rounds
 record AfterThree (key : Key) (w m : Machine) : Type 0 where
   ones : Agree w m (flat_map (first key) key.parts)
   twos : Agree w m (flat_map (second key m) key.parts)
+  named : Agree w m (map asked_search (searches key))
   threes : Agree w m (flat_map (third key m) key.parts)
 
-after_three : (key : Key) (w m : Machine) (ones twos threes : List Question) → flat_map (first key) key.parts ≡ ones → flat_map (second key m) key.parts ≡ twos → flat_map (third key m) key.parts ≡ threes
+after_three : (key : Key) (w m : Machine) (ones twos threes : List Question) → all_asked key phases.First m ≡ ones → all_asked key phases.Runs m ≡ twos → all_asked key phases.RunsElse m ≡ threes
     → Agree w m (joined (joined (joined [] ones) twos) threes) → AfterThree key w m
 after_three key w m ones twos threes one two three agree =
-    let l = agree_round w m (joined (joined [] ones) twos) (flat_map (third key m) key.parts) threes three agree in
-    let k = agree_round w m (joined [] ones) (flat_map (second key m) key.parts) twos two l.0 in
-    let h = agree_round w m [] (flat_map (first key) key.parts) ones one k.0 in
-    record { ones = h.1; twos = k.1; threes = l.1 }
+    let l = agree_round w m (joined (joined [] ones) twos) (all_asked key phases.RunsElse m) threes three agree in
+    let k = agree_round w m (joined [] ones) (all_asked key phases.Runs m) twos two l.0 in
+    let h = agree_round w m [] (all_asked key phases.First m) ones one k.0 in
+    let third_parts = agree_both w m (flat_map (third key m) key.parts) [] l.1 in
+    let second_parts = agree_both w m (flat_map (second key m) key.parts) (map asked_search (searches key)) k.1 in
+    let first_parts = agree_both w m (flat_map (first key) key.parts) (map env (variables key)) h.1 in
+    record { ones = first_parts.0; twos = second_parts.0; named = second_parts.1; threes = third_parts.0 }
 
 -- what each round of files asks
 
-fourths_one : (key : Key) (w m : Machine) → AfterThree key w m → flat_map (fourth key w) key.parts ≡ flat_map (fourth key m) key.parts
+fourths_one : (key : Key) (w m : Machine) → AfterThree key w m → all_asked key phases.Files w ≡ all_asked key phases.Files m
 fourths_one key w m it =
-    all_by_four w m (first key) (second key m) (third key m) (third key m) (fourth key w) (fourth key m) key.parts
-    (λ part h k l again. fourth_one key w m part (has_failed_one key w m it.twos) (has_shown_one key w m it.twos it.threes) h k l)
-    it.ones it.twos it.threes it.threes
+    let t = has_shown_one key w m it.twos it.threes in
+    ap (λ qs. qs ++ listed_in key phases.Files w)
+    (all_by_four w m (first key) (second key m) (third key m) (third key m) (fourth key w) (fourth key m) key.parts
+    (λ part h k l again. fourth_one key w m part (has_failed_one key w m it.twos) t h k l)
+    it.ones it.twos it.threes it.threes)
+    ∙ ap (λ qs. flat_map (fourth key m) key.parts ++ qs) (files_listed_one key w m (is_searched key) t)
 
-fifths_one : (key : Key) (w m : Machine) → AfterThree key w m → Agree w m (flat_map (fourth key m) key.parts) → flat_map (fifth key w) key.parts ≡ flat_map (fifth key m) key.parts
+-- in four, and for a list
+record AfterFour (key : Key) (w m : Machine) : Type 0 where
+  fours : Agree w m (flat_map (fourth key m) key.parts)
+  files : Agree w m (listed_in key phases.Files m)
+
+after_four : (key : Key) (w m : Machine) → Agree w m (all_asked key phases.Files m) → AfterFour key w m
+after_four key w m n = let it = agree_both w m (flat_map (fourth key m) key.parts) (listed_in key phases.Files m) n in record { fours = it.0; files = it.1 }
+
+fifths_one : (key : Key) (w m : Machine) → AfterThree key w m → AfterFour key w m → all_asked key phases.Details w ≡ all_asked key phases.Details m
 fifths_one key w m it n =
-    all_by_four w m (first key) (second key m) (fourth key m) (fourth key m) (fifth key w) (fifth key m) key.parts
-    (λ part h k n again. fifth_one key w m (has_shown_one key w m it.twos it.threes) part h k n)
-    it.ones it.twos n n
+    let t = has_shown_one key w m it.twos it.threes in
+    ap (λ qs. qs ++ listed_in key phases.Details w)
+    (all_by_four w m (first key) (second key m) (fourth key m) (fourth key m) (fifth key w) (fifth key m) key.parts
+    (λ part h k n again. fifth_one key w m t part h k n)
+    it.ones it.twos n.fours n.fours)
+    ∙ ap (λ qs. flat_map (fifth key m) key.parts ++ qs) (details_listed_one key w m (is_searched key) t n.files)
 
-sixths_one : (key : Key) (w m : Machine) → AfterThree key w m → Agree w m (flat_map (fourth key m) key.parts) → Agree w m (flat_map (fifth key m) key.parts)
-    → flat_map (sixth key w) key.parts ≡ flat_map (sixth key m) key.parts
+-- in five
+record AfterFive (key : Key) (w m : Machine) : Type 0 where
+  fives : Agree w m (flat_map (fifth key m) key.parts)
+  details : Agree w m (listed_in key phases.Details m)
+
+after_five : (key : Key) (w m : Machine) → Agree w m (all_asked key phases.Details m) → AfterFive key w m
+after_five key w m o = let it = agree_both w m (flat_map (fifth key m) key.parts) (listed_in key phases.Details m) o in record { fives = it.0; details = it.1 }
+
+sixths_one : (key : Key) (w m : Machine) → AfterThree key w m → AfterFour key w m → AfterFive key w m → all_asked key phases.Inside w ≡ all_asked key phases.Inside m
 sixths_one key w m it n o =
-    all_by_four w m (first key) (second key m) (fourth key m) (fifth key m) (sixth key w) (sixth key m) key.parts
-    (λ part h k n o. sixth_one key w m (has_shown_one key w m it.twos it.threes) part h k n o)
-    it.ones it.twos n o
+    let t = has_shown_one key w m it.twos it.threes in
+    ap (λ qs. qs ++ listed_in key phases.Inside w)
+    (all_by_four w m (first key) (second key m) (fourth key m) (fifth key m) (sixth key w) (sixth key m) key.parts
+    (λ part h k n o. sixth_one key w m t part h k n o)
+    it.ones it.twos n.fours o.fives)
+    ∙ ap (λ qs. flat_map (sixth key m) key.parts ++ qs) (inside_listed_one key w m (is_searched key) t it.named n.files o.details)
 
-all_rows_one : (key : Key) (w m : Machine) → AfterThree key w m → Agree w m (flat_map (fourth key m) key.parts) → Agree w m (flat_map (fifth key m) key.parts)
-    → Agree w m (flat_map (sixth key m) key.parts) → rows_on key w ≡ rows_on key m
+all_rows_one : (key : Key) (w m : Machine) → AfterThree key w m → AfterFour key w m → AfterFive key w m → Agree w m (all_asked key phases.Inside m) → outcome_on key w ≡ outcome_on key m
 all_rows_one key w m it n o p =
-    rows_one key w m key.parts (has_failed_one key w m it.twos) (has_shown_one key w m it.twos it.threes)
-    (record { one = it.ones; two = it.twos; three = it.threes; four = n; five = o; six = p })
+    let t = has_shown_one key w m it.twos it.threes in
+    let sixes = agree_both w m (flat_map (sixth key m) key.parts) (listed_in key phases.Inside m) p in
+    ap (option_map (outcome_by key w))
+    (rows_one key w m key.parts (has_failed_one key w m it.twos) t
+    (record { one = it.ones; two = it.twos; three = it.threes; four = n.fours; five = o.fives; six = sixes.0 }))
+    ∙ ap (λ b. let outcome : List Row → Outcome = λ rows. record { rows = rows; is_listed = b } in option_map outcome (rows_on key m)) (listed_one key w m (is_searched key) t it.named n.files o.details)
 
 -- ---- the rounds of files, and the rows
 
-decided_behind : (key : Key) (m : Machine) (ones twos threes : List Question) → flat_map (first key) key.parts ≡ ones → flat_map (second key m) key.parts ≡ twos → flat_map (third key m) key.parts ≡ threes
-    → AreDecided m (rows_on key) (stage key phases.Files ∷ stage key phases.Details ∷ stage key phases.Inside ∷ []) (joined (joined (joined [] ones) twos) threes)
+decided_behind : (key : Key) (m : Machine) (ones twos threes : List Question) → all_asked key phases.First m ≡ ones → all_asked key phases.Runs m ≡ twos → all_asked key phases.RunsElse m ≡ threes
+    → AreDecided m (outcome_on key) (stage key phases.Files ∷ stage key phases.Details ∷ stage key phases.Inside ∷ []) (joined (joined (joined [] ones) twos) threes)
 decided_behind key m ones twos threes one two three = (
   λ w agree.
       let it = after_three key w m ones twos threes one two three agree in
-      ap (λ b. cond b None (Some (flat_map (fourth key w) key.parts))) (is_hidden_else_one key w m it.twos it.threes)
+      ap (λ b. cond b None (Some (all_asked key phases.Files w))) (is_hidden_else_one key w m it.twos it.threes)
       ∙ ap (λ qs. cond (is_hidden_else key m) None (Some qs)) (fourths_one key w m it),
   λ fours is_fourth.
-      let four : flat_map (fourth key m) key.parts ≡ fours = some_by (is_hidden_else key m) (flat_map (fourth key m) key.parts) fours is_fourth in (
+      let four : all_asked key phases.Files m ≡ fours = some_by (is_hidden_else key m) (all_asked key phases.Files m) fours is_fourth in (
         λ w agree.
-            let n = agree_round w m (joined (joined (joined [] ones) twos) threes) (flat_map (fourth key m) key.parts) fours four agree in
-            ap Some (fifths_one key w m (after_three key w m ones twos threes one two three n.0) n.1),
+            let n = agree_round w m (joined (joined (joined [] ones) twos) threes) (all_asked key phases.Files m) fours four agree in
+            ap Some (fifths_one key w m (after_three key w m ones twos threes one two three n.0) (after_four key w m n.1)),
         λ fives is_fifth.
-            let five : flat_map (fifth key m) key.parts ≡ fives = same_some (flat_map (fifth key m) key.parts) fives is_fifth in (
+            let five : all_asked key phases.Details m ≡ fives = same_some (all_asked key phases.Details m) fives is_fifth in (
               λ w agree.
-                  let o = agree_round w m (joined (joined (joined (joined [] ones) twos) threes) fours) (flat_map (fifth key m) key.parts) fives five agree in
-                  let n = agree_round w m (joined (joined (joined [] ones) twos) threes) (flat_map (fourth key m) key.parts) fours four o.0 in
-                  ap Some (sixths_one key w m (after_three key w m ones twos threes one two three n.0) n.1 o.1),
+                  let o = agree_round w m (joined (joined (joined (joined [] ones) twos) threes) fours) (all_asked key phases.Details m) fives five agree in
+                  let n = agree_round w m (joined (joined (joined [] ones) twos) threes) (all_asked key phases.Files m) fours four o.0 in
+                  ap Some (sixths_one key w m (after_three key w m ones twos threes one two three n.0) (after_four key w m n.1) (after_five key w m o.1)),
               λ sixes is_sixth w agree.
-                  let six : flat_map (sixth key m) key.parts ≡ sixes = same_some (flat_map (sixth key m) key.parts) sixes is_sixth in
-                  let p = agree_round w m (joined (joined (joined (joined (joined [] ones) twos) threes) fours) fives) (flat_map (sixth key m) key.parts) sixes six agree in
-                  let o = agree_round w m (joined (joined (joined (joined [] ones) twos) threes) fours) (flat_map (fifth key m) key.parts) fives five p.0 in
-                  let n = agree_round w m (joined (joined (joined [] ones) twos) threes) (flat_map (fourth key m) key.parts) fours four o.0 in
-                  all_rows_one key w m (after_three key w m ones twos threes one two three n.0) n.1 o.1 p.1,
+                  let six : all_asked key phases.Inside m ≡ sixes = same_some (all_asked key phases.Inside m) sixes is_sixth in
+                  let p = agree_round w m (joined (joined (joined (joined (joined [] ones) twos) threes) fours) fives) (all_asked key phases.Inside m) sixes six agree in
+                  let o = agree_round w m (joined (joined (joined (joined [] ones) twos) threes) fours) (all_asked key phases.Details m) fives five p.0 in
+                  let n = agree_round w m (joined (joined (joined [] ones) twos) threes) (all_asked key phases.Files m) fours four o.0 in
+                  all_rows_one key w m (after_three key w m ones twos threes one two three n.0) (after_four key w m n.1) (after_five key w m o.1) p.1,
             ),
       ),
 )
 
-decided : (key : Key) (m : Machine) → AreDecided m (rows_on key) (rounds key) []
+decided : (key : Key) (m : Machine) → AreDecided m (outcome_on key) (rounds key) []
 decided key m = (
   λ w agree. refl,
   λ ones is_first.
-      let one : flat_map (first key) key.parts ≡ ones = same_some (flat_map (first key) key.parts) ones is_first in (
+      let one : all_asked key phases.First m ≡ ones = same_some (all_asked key phases.First m) ones is_first in (
         λ w agree.
-            let h = agree_round w m [] (flat_map (first key) key.parts) ones one agree in
-            ap (λ b. cond b None (Some (flat_map (second key w) key.parts))) (is_forbidden_one key w m h.1)
-            ∙ ap (λ qs. cond (is_forbidden key m) None (Some qs)) (all_one w m (first key) (second key w) (second key m) key.parts (second_one key w m) h.1),
+            let h = agree_round w m [] (all_asked key phases.First m) ones one agree in
+            let firsts = agree_both w m (flat_map (first key) key.parts) (map env (variables key)) h.1 in
+            ap (λ b. cond b None (Some (all_asked key phases.Runs w))) (is_forbidden_one key w m firsts.0)
+            ∙ ap (λ qs. cond (is_forbidden key m) None (Some (qs ++ map asked_search (searches key)))) (all_one w m (first key) (second key w) (second key m) key.parts (second_one key w m) firsts.0),
         λ twos is_second.
-            let two : flat_map (second key m) key.parts ≡ twos = some_by (is_forbidden key m) (flat_map (second key m) key.parts) twos is_second in (
+            let two : all_asked key phases.Runs m ≡ twos = some_by (is_forbidden key m) (all_asked key phases.Runs m) twos is_second in (
               λ w agree.
-                  let k = agree_round w m (joined [] ones) (flat_map (second key m) key.parts) twos two agree in
-                  ap (λ b. cond b None (Some (flat_map (third key w) key.parts))) (is_hidden_one key w m k.1)
-                  ∙ ap (λ qs. cond (is_hidden key m) None (Some qs)) (each_one (third key w) (third key m) key.parts (third_one key w m (has_failed_one key w m k.1))),
-              λ threes is_third. decided_behind key m ones twos threes one two (some_by (is_hidden key m) (flat_map (third key m) key.parts) threes is_third),
+                  let k = agree_round w m (joined [] ones) (all_asked key phases.Runs m) twos two agree in
+                  let seconds = agree_both w m (flat_map (second key m) key.parts) (map asked_search (searches key)) k.1 in
+                  ap (λ b. cond b None (Some (all_asked key phases.RunsElse w))) (is_hidden_one key w m seconds.0)
+                  ∙ ap (λ qs. cond (is_hidden key m) None (Some (qs ++ []))) (each_one (third key w) (third key m) key.parts (third_one key w m (has_failed_one key w m seconds.0))),
+              λ threes is_third. decided_behind key m ones twos threes one two (some_by (is_hidden key m) (all_asked key phases.RunsElse m) threes is_third),
             ),
       ),
 )
@@ -671,7 +809,7 @@ forbids_judges key m part judged = (and_parts (is_early part) (is_none (answer_o
 
 -- what hides something has no answer
 
-hidden_text : (m : Machine) (it : Written) (b : Bool) → not b ≡ true → is_none (cond b (option_map (λ headers. outputs_told it ++ headers) (files_told m (loaded_in it.output))) None) ≡ true
+hidden_text : (m : Machine) (it : Written) (b : Bool) → not b ≡ true → is_none (cond (b && not (is_fleeting m it.output)) (option_map (λ headers. outputs_told it ++ headers) (files_told m (loaded_in it.output))) None) ≡ true
 hidden_text m it true e = absurd (let no : false ≡ true = e in cc)
 hidden_text m it false e = refl
 
@@ -718,14 +856,17 @@ ends_in : {A : Type 0} (rest rows : Option A) (questions : List Question) (b : B
 ends_in rest rows questions true none e = sym (none refl)
 ends_in rest rows questions false none e = e
 
-rows_in : (key : Key) (m : Machine) → value_on m (rows_on key) (rounds key) ≡ rows_on key m
-rows_in key m =
-    let rows = rows_on key m in
-    let files : Option (List Row) = value_on m (rows_on key) (stage key phases.Files ∷ stage key phases.Details ∷ stage key phases.Inside ∷ []) in
-    let others : Option (List Row) = value_on m (rows_on key) (stage key phases.RunsElse ∷ stage key phases.Files ∷ stage key phases.Details ∷ stage key phases.Inside ∷ []) in
-    ends_in others rows (flat_map (second key m) key.parts) (is_forbidden key m) (no_rows key m (forbids key m) (forbids_judges key m) key.parts)
-    (ends_in files rows (flat_map (third key m) key.parts) (is_hidden key m) (no_rows key m (hides_by key m) (hides_by_judges key m) key.parts)
-    (ends_in rows rows (flat_map (fourth key m) key.parts) (is_hidden_else key m) (no_rows key m (hides_else key m) (hides_else_judges key m) key.parts) refl))
+no_outcome : (key : Key) (m : Machine) (judge : Part → Bool) → Judges key m judge → list_any judge key.parts ≡ true → outcome_on key m ≡ None
+no_outcome key m judge judges any = ap (option_map (outcome_by key m)) (no_rows key m judge judges key.parts any)
+
+outcome_in : (key : Key) (m : Machine) → value_on m (outcome_on key) (rounds key) ≡ outcome_on key m
+outcome_in key m =
+    let outcome = outcome_on key m in
+    let files : Option Outcome = value_on m (outcome_on key) (stage key phases.Files ∷ stage key phases.Details ∷ stage key phases.Inside ∷ []) in
+    let others : Option Outcome = value_on m (outcome_on key) (stage key phases.RunsElse ∷ stage key phases.Files ∷ stage key phases.Details ∷ stage key phases.Inside ∷ []) in
+    ends_in others outcome (all_asked key phases.Runs m) (is_forbidden key m) (no_outcome key m (forbids key m) (forbids_judges key m))
+    (ends_in files outcome (all_asked key phases.RunsElse m) (is_hidden key m) (no_outcome key m (hides_by key m) (hides_by_judges key m))
+    (ends_in outcome outcome (all_asked key phases.Files m) (is_hidden_else key m) (no_outcome key m (hides_else key m) (hides_else_judges key m)) refl))
 
 pub rounds_give_rows : RoundsGiveRows
-rounds_give_rows key m = talks_end m (rows_on key) (rounds key) (decided key m) ∙ ap ends (rows_in key m)
+rounds_give_rows key m = talks_end m (outcome_on key) (rounds key) (decided key m) ∙ ap ends (outcome_in key m)

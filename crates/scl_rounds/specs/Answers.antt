@@ -12,6 +12,7 @@ use Rattle.scl_questions.specs.Told.{value_told, unset_told, file_told, maybe_to
 use Rattle.scl_rounds.specs.Files.{files_told, times_told}
 use Rattle.scl_rounds.specs.Headers.{headers_told, places}
 use Rattle.scl_rounds.specs.Keys.{Key, is_made}
+use Rattle.scl_rounds.specs.Listings.{is_listed}
 use Rattle.scl_patterns.specs.Patterns.{is_shown}
 use Rattle.scl_rounds.specs.Plans.{plan_told, planned_on}
 use Rattle.scl_patterns.specs.Refusals.{is_refused}
@@ -78,3 +79,16 @@ row_on key m part = option_map (row_by part) (answer_on key m part)
 -- the rows of the parts, if each has one
 abbrev pub rows_on : Key → Machine → Option (List Row)
 rows_on key m = all_there (map (row_on key m) key.parts)
+
+-- ---- the end
+
+-- the rows, and whether a list of answers may stand for the runs
+pub record Outcome : Type 0 where
+  pub rows : List Row
+  pub is_listed : Bool
+
+abbrev pub outcome_by : Key → Machine → List Row → Outcome
+outcome_by key m rows = record { rows = rows; is_listed = is_listed key m }
+
+abbrev pub outcome_on : Key → Machine → Option Outcome
+outcome_on key m = option_map (outcome_by key m) (rows_on key m)

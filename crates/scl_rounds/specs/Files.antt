@@ -1,10 +1,12 @@
 -- What a machine says of the files that texts name.
 use Rattle.std.specs.Prelude.{ℕ, Bool, true, false, List, [], ◌∷◌, map, Option, None, Some}
-use Rattle.std.specs.List.{flat_map}
+use Rattle.std.specs.List.{flat_map, list_any}
 use Rattle.std.specs.Option.{option_map}
 use Rattle.scl_lookup.specs.Keys.{Row, said, all_there}
 use Rattle.scl_lookup.specs.Questions.{Standing, regular, folder, special, missing, file, times, Machine}
 use Rattle.scl_questions.specs.Told.{maybe_told}
+use Rattle.scl_rounds.specs.declared.file.Flaw.{Flaw}
+use Rattle.scl_rounds.specs.declared.file.Flaw.TheVariants as flaws
 
 -- rows as one
 abbrev pub in_one : List Row → Row
@@ -39,3 +41,18 @@ times_row m name = times_by m name (m (file name))
 
 abbrev pub times_told : Machine → List (List ℕ) → Option Row
 times_told m names = option_map in_one (all_there (map (times_row m) names))
+
+-- ---- what can be read once only, or no more
+
+abbrev pub has_flaw : Flaw → Standing → Bool
+has_flaw flaws.Special (regular sum) = false
+has_flaw flaws.Special folder = false
+has_flaw flaws.Special special = true
+has_flaw flaws.Special missing = false
+has_flaw flaws.Gone (regular sum) = false
+has_flaw flaws.Gone folder = false
+has_flaw flaws.Gone special = false
+has_flaw flaws.Gone missing = true
+
+abbrev pub any_flawed : Flaw → Machine → List (List ℕ) → Bool
+any_flawed flaw m names = list_any (λ name. has_flaw flaw (m (file name))) names

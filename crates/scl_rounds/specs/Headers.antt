@@ -1,5 +1,5 @@
 -- The headers that were compiled before, and that gcc may read in the place of the first one that a source includes.
-use Rattle.std.specs.Prelude.{ℕ, ◌-◌, ◌==◌, not, Bool, true, false, cond, List, [], ◌∷◌, ◌++◌, length, take, map, codes, Option, None, Some}
+use Rattle.std.specs.Prelude.{ℕ, ◌-◌, not, Bool, true, false, cond, List, [], ◌∷◌, ◌++◌, length, take, map, codes, Option, None, Some}
 use Rattle.std.specs.List.{filter_map, flat_map, list_any, suffix_len}
 use Rattle.std.specs.Option.{option_map}
 use Rattle.std.specs.Str.{bytes_eq}
@@ -11,7 +11,7 @@ use Rattle.scl_readings.specs.Lines.{leading_lines, parts}
 use Rattle.scl_readings.specs.Markers.{files_in}
 use Rattle.scl_readings.specs.declared.files.Named.TheVariants.{Entered}
 use Rattle.scl_rounds.specs.Files.{files_told}
-use Rattle.scl_rounds.specs.Keys.{Key, is_made}
+use Rattle.scl_rounds.specs.Keys.{Key, is_made, searches}
 use Rattle.scl_rounds.specs.Searches.{all_folders_on}
 use Rattle.scl_rounds.specs.Shown.{each_once, marked, shown}
 
@@ -62,7 +62,7 @@ folders key m headers searched =
     ++ map folder_of headers
     ++ map folder_of (named (codes "beside") searched)
     ++ folders_by m (named (codes "variable") searched)
-    ++ all_folders_on m key.searches)
+    ++ all_folders_on m (searches key))
 
 -- ---- where they may stand
 

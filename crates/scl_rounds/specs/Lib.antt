@@ -2,6 +2,7 @@ pub mod Answers
 pub mod Files
 pub mod Headers
 pub mod Keys
+pub mod Listings
 pub mod Plans
 pub mod Rounds
 pub mod Runs

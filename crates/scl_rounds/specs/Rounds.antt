@@ -11,14 +11,15 @@ use Rattle.scl_rounds.specs.declared.question.Detail.{Detail}
 use Rattle.scl_rounds.specs.declared.question.Detail.TheVariants as details
 use Rattle.scl_rounds.specs.declared.question.Phase.{Phase}
 use Rattle.scl_rounds.specs.declared.question.Phase.TheVariants as phases
-use Rattle.scl_rounds.specs.Answers.{rows_on, said_directory}
+use Rattle.scl_rounds.specs.Answers.{outcome_on, said_directory}
 use Rattle.scl_rounds.specs.Files.{is_regular}
 use Rattle.scl_rounds.specs.Headers.{all_inside, is_folder, named, places}
-use Rattle.scl_rounds.specs.Keys.{Key, is_made}
+use Rattle.scl_rounds.specs.Keys.{Key, is_made, searches, variables}
+use Rattle.scl_rounds.specs.Listings.{candidates, is_searched, naming}
 use Rattle.scl_patterns.specs.Patterns.{is_shown}
 use Rattle.scl_rounds.specs.Plans.{asked_plan, called_in, files_in_plan, planned_on}
-use Rattle.scl_rounds.specs.Runs.{has_failed, loaded_in}
-use Rattle.scl_rounds.specs.Searches.{asked_search}
+use Rattle.scl_rounds.specs.Runs.{entered_in, has_failed, loaded_in, marked_in}
+use Rattle.scl_rounds.specs.Searches.{all_folders_on, asked_search}
 use Rattle.scl_rounds.specs.Shown.{all_sources, marked, shown, shown_by, unmarked}
 use Rattle.scl_rounds.specs.Vain.{is_vain}
 
@@ -52,17 +53,21 @@ abbrev pub second : Key → Machine → Part → List Question
 second key m directory = behind_said key.place (m said_directory)
 second key m (plan words) = asked_plan words ∷ []
 second key m (run_part words) = asked_run words
-second key m (pch searched) = map asked_search key.searches
+second key m (pch searched) = map asked_search (searches key)
 second key m other = []
 
 abbrev pub third : Key → Machine → Part → List Question
 third key m (run_else words) = cond (has_failed key m) (asked_run words) []
 third key m other = []
 
--- the headers that the text of a run loads, if there is a text
-abbrev pub loaded_by : (text : Option (List ℕ)) → List (List ℕ)
-loaded_by None = []
-loaded_by (Some text) = loaded_in text
+-- Each file that the text of a run names, if there is a text: the headers that it loads, and all that its markers name. So a caller can see
+-- whether one of them changes before the compilation has read it.
+abbrev pub read_in : List ℕ → List (List ℕ)
+read_in text = loaded_in text ++ marked_in text ++ entered_in text
+
+abbrev pub read_by : (text : Option (List ℕ)) → List (List ℕ)
+read_by None = []
+read_by (Some text) = read_in text
 
 -- the files that a plan names, if there is a plan
 abbrev pub needed_by : Key → Option Written → List (List ℕ)
@@ -90,8 +95,8 @@ needed_asked key m other name = []
 
 -- the files that a part needs, by what the runs write
 abbrev pub needed : Key → Machine → Part → List (List ℕ)
-needed key m (run_part words) = loaded_by (shown_by key m (run_part words))
-needed key m (run_else words) = loaded_by (shown_by key m (run_else words))
+needed key m (run_part words) = read_by (shown_by key m (run_part words))
+needed key m (run_else words) = read_by (shown_by key m (run_else words))
 needed key m (plan words) = needed_by key (planned_on m words)
 needed key m (asked ask name) = needed_asked key m ask name
 needed key m (pch searched) = places key m searched
@@ -147,9 +152,27 @@ asked_in key phases.Files m part = fourth key m part
 asked_in key phases.Details m part = fifth key m part
 asked_in key phases.Inside m part = sixth key m part
 
+-- What a round asks of files for a list of answers. Where links lead two folders to one, a compiler searches one of them.
+abbrev pub listed_files : Key → Phase → Machine → List Question
+listed_files key phases.First m = []
+listed_files key phases.Runs m = []
+listed_files key phases.RunsElse m = []
+listed_files key phases.Files m = map file (all_sources key m) ++ map file (naming key m)
+listed_files key phases.Details m = details_asked details.Content m (naming key m)
+listed_files key phases.Inside m = map real (all_folders_on m (searches key)) ++ map file (candidates key m)
+
+-- what a round asks for a list of answers
+abbrev pub listed_in : Key → Phase → Machine → List Question
+listed_in key phases.First m = map env (variables key)
+listed_in key phases.Runs m = map asked_search (searches key)
+listed_in key phases.RunsElse m = []
+listed_in key phases.Files m = cond (is_searched key) (listed_files key phases.Files m) []
+listed_in key phases.Details m = cond (is_searched key) (listed_files key phases.Details m) []
+listed_in key phases.Inside m = cond (is_searched key) (listed_files key phases.Inside m) []
+
 -- what a round asks, if it is not in vain
 abbrev pub stage : Key → Phase → Stage
-stage key phase m = cond (is_vain key phase m) None (Some (flat_map (asked_in key phase m) key.parts))
+stage key phase m = cond (is_vain key phase m) None (Some (flat_map (asked_in key phase m) key.parts ++ listed_in key phase m))
 
 abbrev pub all_phases : List Phase
 all_phases = phases.First ∷ phases.Runs ∷ phases.RunsElse ∷ phases.Files ∷ phases.Details ∷ phases.Inside ∷ []
@@ -159,4 +182,4 @@ rounds key = map (stage key) all_phases
 
 -- In as many rounds a caller that answers truly gets the rows of the key on its machine, or that there are none.
 abbrev pub RoundsGiveRows : Type 0
-RoundsGiveRows = (key : Key) (m : Machine) → talk (length (rounds key)) m (rows_on key) (rounds key) [] ≡ ends (rows_on key m)
+RoundsGiveRows = (key : Key) (m : Machine) → talk (length (rounds key)) m (outcome_on key) (rounds key) [] ≡ ends (outcome_on key m)

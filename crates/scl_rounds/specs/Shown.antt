@@ -6,12 +6,9 @@ use Rattle.std.specs.Str.{bytes_eq}
 use Rattle.scl_key.specs.Parts.{Part, is, run, run_else}
 use Rattle.scl_lookup.specs.Keys.{ran_on}
 use Rattle.scl_lookup.specs.Questions.{file, bytes, Machine}
-use Rattle.scl_readings.specs.Lines.{lines_after}
-use Rattle.scl_readings.specs.Markers.{files_in}
-use Rattle.scl_readings.specs.declared.files.Named.TheVariants.{Anywhere}
 use Rattle.scl_rounds.specs.Files.{is_regular}
 use Rattle.scl_rounds.specs.Keys.{Key}
-use Rattle.scl_rounds.specs.Runs.{has_failed}
+use Rattle.scl_rounds.specs.Runs.{has_failed, marked_in}
 
 -- ---- texts
 
@@ -37,10 +34,6 @@ with_name names name = cond (list_any (λ other. bytes_eq other name) names) nam
 abbrev pub each_once : List (List ℕ) → List (List ℕ)
 each_once [] = []
 each_once (name ∷ names) = name ∷ filter (λ other. not (bytes_eq name other)) (each_once names)
-
--- the files that line markers name
-abbrev pub marked_in : List ℕ → List (List ℕ)
-marked_in text = files_in Anywhere (lines_after 0x23 text)
 
 -- the input, if the fact names it
 abbrev pub input_in : List (List ℕ) → Option (List ℕ)

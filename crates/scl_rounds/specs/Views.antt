@@ -1,7 +1,6 @@
 -- What the code's values stand for.
-use Rattle.std.specs.Prelude.{List, None, Some, Option}
-use Rattle.scl_key.specs.Views.{parts_of}
-use Rattle.scl_lookup.specs.Keys.{Row}
+use Rattle.std.specs.Prelude.{None, Some, Option}
+use Rattle.scl_key.specs.Views.{directs_of, parts_of}
 use Rattle.scl_lookup.specs.Questions.{Machine}
 use Rattle.scl_questions.specs.Answers.{told}
 use Rattle.scl_questions.specs.Talks.{Said, looks_up, ends, refuses}
@@ -10,11 +9,11 @@ use Rattle.scl_rounds.specs.declared.answer.Told as declared_told
 use Rattle.scl_rounds.specs.declared.key.Key as declared_key
 use Rattle.scl_rounds.specs.declared.next.Next as declared_next
 use Rattle.scl_rounds.specs.declared.next.Next.TheVariants as nexts
+use Rattle.scl_rounds.specs.Answers.{Outcome}
 use Rattle.scl_rounds.specs.Keys.{Key}
-use Rattle.scl_text.specs.Runs.{runs_of}
 
 abbrev pub key_of : declared_key.Key → Key
-key_of k = record { place = k.place.now; parts = parts_of k.parts.now; searches = runs_of k.searches.now }
+key_of k = record { place = k.place.now; parts = parts_of k.parts.now; direct = directs_of k.direct.now }
 
 abbrev pub key_in : declared_told.Told → Key
 key_in t = key_of t.key.now
@@ -23,13 +22,13 @@ key_in t = key_of t.key.now
 abbrev pub machine_of : declared_told.Told → Machine
 machine_of t = told (questions_of t.asked.now) (replies_of t.answers.now)
 
-abbrev pub next_of : declared_next.Next → Said (List Row)
+abbrev pub next_of : declared_next.Next → Said Outcome
 next_of (nexts.LookUp questions) = looks_up (questions_of questions.items)
-next_of (nexts.Found rows) = ends (Some (rows_of rows.items))
+next_of (nexts.Found rows is_listed) = ends (Some (record { rows = rows_of rows.items; is_listed = is_listed }))
 next_of nexts.Nothing = ends None
 next_of (nexts.Refused number) = refuses number
 
 -- what is said in a round, or else behind it
-abbrev pub said_or : (behind : Said (List Row)) → Option declared_next.Next → Said (List Row)
+abbrev pub said_or : (behind : Said Outcome) → Option declared_next.Next → Said Outcome
 said_or behind None = behind
 said_or behind (Some next) = next_of next

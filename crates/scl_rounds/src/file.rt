@@ -5,13 +5,22 @@ ghost use Rattle.scl_values.specs.Words.{words_of};
 ghost use Rattle.scl_lookup.specs.Keys.{said};
 ghost use Rattle.scl_lookup.specs.Questions.{file, times};
 ghost use Rattle.scl_questions.specs.Views.{row_of};
-ghost use Rattle.scl_rounds.specs.Files.{file_row, files_told, is_regular, times_row, times_told};
+ghost use Rattle.scl_rounds.specs.Files.{any_flawed, file_row, files_told, has_flaw, is_regular, times_row, times_told};
 ghost use Rattle.scl_rounds.specs.Views.{machine_of};
 
 use crate::answer::{Told, stands};
 use scl_questions::{Answer, Field, Question, Standing, answer_to, maybe_told};
 use scl_values::Mem;
 use std::alloc::Global;
+
+/// Why bytes that a run read may not be read again.
+#[derive(Clone, Copy)]
+pub(crate) enum Flaw {
+    /// A pipe or a device can be read once only.
+    Special,
+    /// There is nothing any more.
+    Gone,
+}
 
 /// A name, and the bytes of its file, or that there is a folder or nothing; none: there is what is no file.
 fn file_row(told: &Told<'_>, name: &[u8]) -> Mem<Option<Vec<Field>>>
@@ -97,4 +106,32 @@ pub(crate) fn times_told(told: &Told<'_>, names: &[Vec<u8>]) -> Mem<Option<Vec<F
         }
     }
     Ok(Some(answer))
+}
+
+fn has_flaw(told: &Told<'_>, flaw: Flaw, path: &[u8]) -> Mem<bool>
+    ensures { IfOk result (λ it. it ≡ has_flaw flaw (machine_of told.now (file path.now))) }
+{
+    let standing = stands(told, path)?;
+    match flaw {
+        Flaw::Special => match standing {
+            Some(Standing::Special) => Ok(true),
+            Some(Standing::Regular(_) | Standing::Folder | Standing::Missing) | None => Ok(false),
+        },
+        Flaw::Gone => match standing {
+            Some(Standing::Missing) | None => Ok(true),
+            Some(Standing::Regular(_) | Standing::Folder | Standing::Special) => Ok(false),
+        },
+    }
+}
+
+/// Whether one of these files has the flaw.
+pub(crate) fn any_flawed(told: &Told<'_>, flaw: Flaw, names: &[Vec<u8>]) -> Mem<bool>
+    ensures { IfOk result (λ it. it ≡ any_flawed flaw (machine_of told.now) (words_of names.now)) }
+{
+    for name in names {
+        if has_flaw(told, flaw, name)? {
+            return Ok(true);
+        }
+    }
+    Ok(false)
 }

@@ -117,7 +117,7 @@ fn after_last_slash(path: &[u8]) -> usize
 }
 
 /// A path up to its last slash.
-fn folder_of(path: &[u8]) -> &[u8]
+pub(crate) fn folder_of(path: &[u8]) -> &[u8]
     ensures { result.now ≡ folder_of path.now }
 {
     &path[..after_last_slash(path)]

@@ -5,7 +5,7 @@ ghost use Rattle.scl_rounds.specs.Keys.{asks_early, is_early, is_made, is_output
 ghost use Rattle.scl_rounds.specs.Views.{key_of};
 
 use scl_files::path::{join, same_path};
-use scl_key::{Ask, Part};
+use scl_key::{Ask, Direct, Part};
 use scl_values::Mem;
 use std::alloc::Global;
 
@@ -16,8 +16,8 @@ pub struct Key<'a> {
     pub place: &'a [u8],
     /// Its parts.
     pub parts: &'a [Part],
-    /// The words of the runs that name the folders in which the compiler searches headers (`-v`).
-    pub searches: &'a [Vec<Vec<u8>>],
+    /// What finds it without a run; empty, if nothing does.
+    pub direct: &'a [Direct],
 }
 
 fn asks_early(ask: Ask) -> bool

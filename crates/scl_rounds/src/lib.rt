@@ -6,6 +6,7 @@ mod file;
 mod header;
 mod key;
 pub mod laws;
+mod listing;
 mod next;
 mod plan;
 mod question;

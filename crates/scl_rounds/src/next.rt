@@ -3,12 +3,13 @@ ghost use Rattle.std.specs.Prelude.{◌≡◌, ◌∷◌, IfOk, OnOk, [], List};
 ghost use Rattle.scl_questions.specs.Rounds.{joined};
 ghost use Rattle.scl_questions.specs.Talks.{Stage, said};
 ghost use Rattle.scl_questions.specs.Views.{questions_of, replies_of};
-ghost use Rattle.scl_rounds.specs.Answers.{rows_on};
+ghost use Rattle.scl_rounds.specs.Answers.{outcome_on};
 ghost use Rattle.scl_rounds.specs.Rounds.{rounds, stage};
 ghost use Rattle.scl_rounds.specs.Views.{key_in, key_of, next_of, said_or};
 
 use crate::answer::Told;
 use crate::key::Key;
+use crate::listing::is_listed;
 use crate::question::{Phase, questions};
 use crate::row::rows;
 use scl_questions::{Answer, Field, Question, Round, ask, round_so_far};
@@ -20,8 +21,9 @@ use std::alloc::Global;
 pub enum Next {
     /// It answers these too, in order.
     LookUp(Vec<Question>),
-    /// It has the rows of what is hashed.
-    Found(Vec<Vec<Field>>),
+    /// It has the rows of what is hashed. The flag says whether the answers to all but what runs write in the language of the
+    /// environment tell whether they would write the same.
+    Found(Vec<Vec<Field>>, bool),
     /// It keeps nothing.
     Nothing,
     /// It gave an answer, of this number, that is missing, of another kind than its question, or to no question.
@@ -48,7 +50,7 @@ fn ask_round(
     asked: &mut Vec<Question>,
     answers: &[Answer],
 ) -> Mem<Option<Next>>
-    ensures { IfOk result (λ next. (later : List Stage) → said_or (said (rows_on (key_of key.now)) later (questions_of asked.new.items) (replies_of answers.now)) next ≡ said (rows_on (key_of key.now)) (stage (key_of key.now) phase ∷ later) (questions_of asked.old.items) (replies_of answers.now)) }
+    ensures { IfOk result (λ next. (later : List Stage) → said_or (said (outcome_on (key_of key.now)) later (questions_of asked.new.items) (replies_of answers.now)) next ≡ said (outcome_on (key_of key.now)) (stage (key_of key.now) phase ∷ later) (questions_of asked.old.items) (replies_of answers.now)) }
 {
     let before = asked.len();
     let told = Told {
@@ -70,20 +72,20 @@ fn ask_round(
 
 /// The end, when all rounds are over.
 fn end(told: &Told<'_>) -> Mem<Next>
-    ensures { IfOk result (λ next. next_of next ≡ said (rows_on (key_in told.now)) [] (questions_of told.now.asked.now) (replies_of told.now.answers.now)) }
+    ensures { IfOk result (λ next. next_of next ≡ said (outcome_on (key_in told.now)) [] (questions_of told.now.asked.now) (replies_of told.now.answers.now)) }
 {
     if told.answers.len() > told.asked.len() {
         return Ok(Next::Refused(told.asked.len()));
     }
     match rows(told)? {
-        Some(rows) => Ok(Next::Found(rows)),
+        Some(rows) => Ok(Next::Found(rows, is_listed(told)?)),
         None => Ok(Next::Nothing),
     }
 }
 
 /// What is said to a caller after these answers, the first of all questions first: what to look up, or the end.
 pub fn look_up(alloc: Global, key: &Key<'_>, answers: &[Answer]) -> Mem<Next>
-    ensures { IfOk result (λ next. next_of next ≡ said (rows_on (key_of key.now)) (rounds (key_of key.now)) [] (replies_of answers.now)) }
+    ensures { IfOk result (λ next. next_of next ≡ said (outcome_on (key_of key.now)) (rounds (key_of key.now)) [] (replies_of answers.now)) }
 {
     let mut asked = Vec::new(alloc);
     for phase in [

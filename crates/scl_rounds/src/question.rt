@@ -1,28 +1,31 @@
 //! What a key asks of a machine, round by round.
 ghost use Rattle.std.specs.Prelude.{◌≡◌, ◌++◌, ◌∷◌, [], map, codes, IfOk, OnOk};
+ghost use Rattle.std.specs.List.{flat_map};
 ghost use Rattle.std.specs.Option.{option_copied, option_map};
 ghost use Rattle.scl_values.specs.Words.{words_of};
 ghost use Rattle.scl_key.specs.declared.part.Ask.TheVariants as asks;
 ghost use Rattle.scl_key.specs.Views.{part_of};
-ghost use Rattle.scl_lookup.specs.Questions.{env, file, program};
+ghost use Rattle.scl_lookup.specs.Questions.{env, file, program, real};
 ghost use Rattle.scl_questions.specs.Views.{question_of, questions_of};
 ghost use Rattle.scl_rounds.specs.Headers.{all_inside, named, places};
+ghost use Rattle.scl_rounds.specs.Keys.{searches, variables};
+ghost use Rattle.scl_rounds.specs.Listings.{candidates, is_searched, naming};
 ghost use Rattle.scl_rounds.specs.Plans.{asked_plan, planned_on};
-ghost use Rattle.scl_rounds.specs.Rounds.{asked_in, asked_run, behind_said, called, called_by_plan, detail_asked, detail_question, details_asked, fifth, fifth_asked, first, first_asked, fourth, has_detail, loaded_by, needed, needed_asked, needed_by, second, sixth, stage, third};
+ghost use Rattle.scl_rounds.specs.Rounds.{asked_in, asked_run, behind_said, called, called_by_plan, detail_asked, detail_question, details_asked, fifth, fifth_asked, first, first_asked, fourth, has_detail, listed_files, listed_in, needed, needed_asked, needed_by, read_by, read_in, second, sixth, stage, third};
 ghost use Rattle.scl_rounds.specs.Searches.{asked_search};
 ghost use Rattle.scl_rounds.specs.Views.{key_in, key_of, machine_of};
-ghost use Rattle.scl_text.specs.Runs.{runs_of};
 
 use crate::answer::{Told, said_directory};
 use crate::file::is_regular;
 use crate::header::{all_inside, is_folder, places, push_named};
 use crate::key::{Key, is_made};
+use crate::listing::{candidates, is_searched, naming};
 use crate::plan::{called_in, files_in_plan, plan_question, planned};
-use crate::run::{has_failed, loaded_in};
-use crate::search::search_question;
+use crate::run::{entered_in, has_failed, loaded_in, marked_in};
+use crate::search::{folders_named, search_question};
 use crate::shown::{all_sources, marked, shown, shown_by, unmarked};
 use crate::vain::is_vain;
-use scl_key::{Ask, Part};
+use scl_key::{Ask, Direct, Part};
 use scl_patterns::is_shown;
 use scl_questions::{Language, Question};
 use scl_text::command::copy_words;
@@ -186,11 +189,13 @@ fn push_plan(alloc: Global, questions: &mut Vec<Question>, words: &[Vec<u8>]) ->
 }
 
 /// Appends the runs that name folders.
-fn push_searches(alloc: Global, questions: &mut Vec<Question>, searches: &[Vec<Vec<u8>>]) -> Mem<()>
-    ensures { OnOk result (questions_of questions.new.items ≡ questions_of questions.old.items ++ map asked_search (runs_of searches.now)) }
+fn push_searches(alloc: Global, questions: &mut Vec<Question>, key: &Key<'_>) -> Mem<()>
+    ensures { OnOk result (questions_of questions.new.items ≡ questions_of questions.old.items ++ map asked_search (searches (key_of key.now))) }
 {
-    for words in searches {
-        questions.push(search_question(alloc, words)?)?;
+    for one in key.direct {
+        if let Direct::Search(words) = one {
+            questions.push(search_question(alloc, words)?)?;
+        }
     }
     Ok(())
 }
@@ -206,7 +211,7 @@ fn push_second(questions: &mut Vec<Question>, told: &Told<'_>, part: &Part) -> M
         }
         Part::Plan(words) => push_plan(told.alloc, questions, words),
         Part::Run(words) => push_run(told.alloc, questions, words),
-        Part::Pch(_) => push_searches(told.alloc, questions, told.key.searches),
+        Part::Pch(_) => push_searches(told.alloc, questions, told.key),
         Part::Is(_)
         | Part::Output(_)
         | Part::Compiler
@@ -229,12 +234,22 @@ fn push_third(questions: &mut Vec<Question>, told: &Told<'_>, part: &Part) -> Me
     Ok(())
 }
 
-/// The headers that the text of a run loads, if there is a text.
-fn loaded_by(alloc: Global, text: Option<&[u8]>) -> Mem<Vec<Vec<u8>>>
-    ensures { IfOk result (λ names. words_of names.items ≡ loaded_by (option_copied text.entry)) }
+/// Each file that a text names: the headers that it loads, and all that its markers name.
+fn read_in(alloc: Global, text: &[u8]) -> Mem<Vec<Vec<u8>>>
+    ensures { IfOk result (λ names. words_of names.items ≡ read_in text.now) }
+{
+    let mut names = loaded_in(alloc, text)?;
+    names.append(&mut marked_in(alloc, text)?)?;
+    names.append(&mut entered_in(alloc, text)?)?;
+    Ok(names)
+}
+
+/// Each file that the text of a run names, if there is a text.
+fn read_by(alloc: Global, text: Option<&[u8]>) -> Mem<Vec<Vec<u8>>>
+    ensures { IfOk result (λ names. words_of names.items ≡ read_by (option_copied text.entry)) }
 {
     match text {
-        Some(text) => loaded_in(alloc, text),
+        Some(text) => read_in(alloc, text),
         None => Ok(Vec::new(alloc)),
     }
 }
@@ -306,7 +321,7 @@ fn needed(told: &Told<'_>, part: &Part) -> Mem<Vec<Vec<u8>>>
     ensures { IfOk result (λ names. words_of names.items ≡ needed (key_in told.now) (machine_of told.now) (part_of part.now)) }
 {
     match part {
-        Part::Run(_) | Part::RunElse(_) => loaded_by(told.alloc, shown_by(told, part)?),
+        Part::Run(_) | Part::RunElse(_) => read_by(told.alloc, shown_by(told, part)?),
         Part::Plan(words) => needed_by_plan(told, words),
         Part::Asked(ask, name) => needed_asked(told, *ask, name),
         Part::Sources => all_sources(told),
@@ -448,6 +463,84 @@ fn push_sixth(questions: &mut Vec<Question>, told: &Told<'_>, part: &Part) -> Me
     Ok(())
 }
 
+/// Appends the variables whose values decide what a run writes.
+fn push_variables_of(alloc: Global, questions: &mut Vec<Question>, key: &Key<'_>) -> Mem<()>
+    ensures { OnOk result (questions_of questions.new.items ≡ questions_of questions.old.items ++ map env (variables (key_of key.now))) }
+{
+    for one in key.direct {
+        if let Direct::Env(name) = one {
+            push_env(alloc, questions, name.as_bytes())?;
+        }
+    }
+    Ok(())
+}
+
+/// Appends where each of these paths leads.
+fn push_reals(alloc: Global, questions: &mut Vec<Question>, paths: &[Vec<u8>]) -> Mem<()>
+    ensures { OnOk result (questions_of questions.new.items ≡ questions_of questions.old.items ++ map real (words_of paths.now)) }
+{
+    for path in paths {
+        questions.push(Question::Real(Vec::from_slice(alloc, path)?))?;
+    }
+    Ok(())
+}
+
+/// Appends what a round asks of files for a list of answers. Where links lead two folders to one, a compiler searches one of them.
+fn push_listed_files(questions: &mut Vec<Question>, told: &Told<'_>, phase: Phase) -> Mem<()>
+    ensures { OnOk result (questions_of questions.new.items ≡ questions_of questions.old.items ++ listed_files (key_in told.now) phase (machine_of told.now)) }
+{
+    match phase {
+        Phase::First | Phase::Runs | Phase::RunsElse => Ok(()),
+        Phase::Files => {
+            push_files(told.alloc, questions, &all_sources(told)?)?;
+            push_files(told.alloc, questions, &naming(told)?)
+        }
+        Phase::Details => {
+            let sources = naming(told)?;
+            push_details(questions, told, Detail::Content, &sources)
+        }
+        Phase::Inside => {
+            push_reals(told.alloc, questions, &folders_named(told)?)?;
+            push_files(told.alloc, questions, &candidates(told)?)
+        }
+    }
+}
+
+/// Appends what a round asks for a list of answers.
+fn push_listed(questions: &mut Vec<Question>, told: &Told<'_>, phase: Phase) -> Mem<()>
+    ensures { OnOk result (questions_of questions.new.items ≡ questions_of questions.old.items ++ listed_in (key_in told.now) phase (machine_of told.now)) }
+{
+    match phase {
+        Phase::First => push_variables_of(told.alloc, questions, told.key),
+        Phase::Runs => push_searches(told.alloc, questions, told.key),
+        Phase::RunsElse => Ok(()),
+        Phase::Files | Phase::Details | Phase::Inside => {
+            if is_searched(told.key) {
+                push_listed_files(questions, told, phase)
+            } else {
+                Ok(())
+            }
+        }
+    }
+}
+
+/// Appends what a round asks for the parts of a key.
+fn push_asked_in(questions: &mut Vec<Question>, told: &Told<'_>, phase: Phase) -> Mem<()>
+    ensures { OnOk result (questions_of questions.new.items ≡ questions_of questions.old.items ++ flat_map (asked_in (key_in told.now) phase (machine_of told.now)) (key_in told.now).parts) }
+{
+    for part in told.key.parts {
+        match phase {
+            Phase::First => push_first(told.alloc, questions, told.key, part)?,
+            Phase::Runs => push_second(questions, told, part)?,
+            Phase::RunsElse => push_third(questions, told, part)?,
+            Phase::Files => push_fourth(questions, told, part)?,
+            Phase::Details => push_fifth(questions, told, part)?,
+            Phase::Inside => push_sixth(questions, told, part)?,
+        }
+    }
+    Ok(())
+}
+
 /// What a round asks, by the answers of those before it; none: nothing may be kept.
 pub(crate) fn questions(told: &Told<'_>, phase: Phase) -> Mem<Option<Vec<Question>>>
     ensures { IfOk result (λ it. option_map (λ questions. questions_of questions.items) it ≡ stage (key_in told.now) phase (machine_of told.now)) }
@@ -456,15 +549,7 @@ pub(crate) fn questions(told: &Told<'_>, phase: Phase) -> Mem<Option<Vec<Questio
         return Ok(None);
     }
     let mut questions = Vec::new(told.alloc);
-    for part in told.key.parts {
-        match phase {
-            Phase::First => push_first(told.alloc, &mut questions, told.key, part)?,
-            Phase::Runs => push_second(&mut questions, told, part)?,
-            Phase::RunsElse => push_third(&mut questions, told, part)?,
-            Phase::Files => push_fourth(&mut questions, told, part)?,
-            Phase::Details => push_fifth(&mut questions, told, part)?,
-            Phase::Inside => push_sixth(&mut questions, told, part)?,
-        }
-    }
+    push_asked_in(&mut questions, told, phase)?;
+    push_listed(&mut questions, told, phase)?;
     Ok(Some(questions))
 }

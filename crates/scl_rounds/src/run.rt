@@ -6,11 +6,11 @@ ghost use Rattle.scl_key.specs.Views.{part_of};
 ghost use Rattle.scl_lookup.specs.Keys.{ran_on, unfailed};
 ghost use Rattle.scl_questions.specs.Answers.{reply_to, written_in};
 ghost use Rattle.scl_questions.specs.Views.{question_of, questions_of, replies_of, row_of, written_of};
-ghost use Rattle.scl_rounds.specs.Runs.{fails, has_failed, has_marker, is_else, loaded_in, may_fail, names_sources, no_text, outputs_told, run_told, written_told};
+ghost use Rattle.scl_rounds.specs.Runs.{entered_in, fails, has_failed, has_marker, is_else, is_fleeting, is_sound, loaded_in, marked_in, may_fail, names_sources, no_text, outputs_told, run_told, written_told};
 ghost use Rattle.scl_rounds.specs.Views.{key_in, key_of, machine_of};
 
 use crate::answer::Told;
-use crate::file::files_told;
+use crate::file::{Flaw, any_flawed, files_told};
 use crate::key::Key;
 use scl_key::Part;
 use scl_questions::{Answer, Field, Language, Question, Written, answer_to};
@@ -107,6 +107,37 @@ pub(crate) fn loaded_in(alloc: Global, text: &[u8]) -> Mem<Vec<Vec<u8>>>
     files_in(alloc, Named::Loaded, &lines_after(alloc, b'#', text)?)
 }
 
+/// The files that line markers name.
+pub(crate) fn marked_in(alloc: Global, text: &[u8]) -> Mem<Vec<Vec<u8>>>
+    ensures { IfOk result (λ names. words_of names.items ≡ marked_in text.now) }
+{
+    files_in(alloc, Named::Anywhere, &lines_after(alloc, b'#', text)?)
+}
+
+/// The files that a text enters.
+pub(crate) fn entered_in(alloc: Global, text: &[u8]) -> Mem<Vec<Vec<u8>>>
+    ensures { IfOk result (λ names. words_of names.items ≡ entered_in text.now) }
+{
+    files_in(alloc, Named::Entered, &lines_after(alloc, b'#', text)?)
+}
+
+/// Whether the compilation may read other bytes than the run: of a pipe or a device, or of another header than one that is gone.
+fn is_fleeting(told: &Told<'_>, text: &[u8]) -> Mem<bool>
+    ensures { IfOk result (λ it. it ≡ is_fleeting (machine_of told.now) text.now) }
+{
+    Ok(
+        any_flawed(told, Flaw::Special, &marked_in(told.alloc, text)?)?
+            || any_flawed(told, Flaw::Gone, &entered_in(told.alloc, text)?)?,
+    )
+}
+
+/// Whether the sources of a text are known, and can be read again.
+fn is_sound(told: &Told<'_>, text: &[u8]) -> Mem<bool>
+    ensures { IfOk result (λ it. it ≡ is_sound (machine_of told.now) text.now) }
+{
+    Ok(names_sources(told.alloc, text)? && !is_fleeting(told, text)?)
+}
+
 /// Both outputs of a run and the bytes of its own file.
 fn outputs_told(alloc: Global, written: &Written) -> Mem<Vec<Field>>
     ensures { IfOk result (λ answer. row_of answer.items ≡ outputs_told (written_of written.now)) }
@@ -118,12 +149,12 @@ fn outputs_told(alloc: Global, written: &Written) -> Mem<Vec<Field>>
     Ok(answer)
 }
 
-/// The outputs of a run, and the headers that its text loads; nothing may be kept if the text hides the sources, or a header is
-/// no file.
+/// The outputs of a run, and the headers that its text loads; nothing may be kept if the text is not sound, or a header is no
+/// file.
 fn written_told(told: &Told<'_>, written: &Written) -> Mem<Option<Vec<Field>>>
     ensures { IfOk result (λ answer. option_map (λ answer. row_of answer.items) answer ≡ written_told (machine_of told.now) (written_of written.now)) }
 {
-    if !names_sources(told.alloc, &written.output)? {
+    if !is_sound(told, &written.output)? {
         return Ok(None);
     }
     let loaded = loaded_in(told.alloc, &written.output)?;

@@ -6,16 +6,16 @@ ghost use Rattle.std.specs.Str.{bytes_eq};
 ghost use Rattle.scl_values.specs.Words.{words_of};
 ghost use Rattle.scl_key.specs.Views.{part_of, parts_of};
 ghost use Rattle.scl_lookup.specs.Questions.{bytes};
-ghost use Rattle.scl_rounds.specs.Shown.{all_sources, content_at, each_once, input_in, input_of, marked, marked_in, searched, shown, shown_by, text_on, unmarked, with_name};
+ghost use Rattle.scl_rounds.specs.Runs.{marked_in};
+ghost use Rattle.scl_rounds.specs.Shown.{all_sources, content_at, each_once, input_in, input_of, marked, searched, shown, shown_by, text_on, unmarked, with_name};
 ghost use Rattle.scl_rounds.specs.Views.{key_in, machine_of};
 
 use crate::answer::Told;
 use crate::file::is_regular;
 use crate::key::Key;
-use crate::run::{has_failed, ran};
+use crate::run::{has_failed, marked_in, ran};
 use scl_key::Part;
 use scl_questions::{Answer, Question, answer_to};
-use scl_readings::{Named, files_in, lines_after};
 use scl_values::Mem;
 use std::alloc::Global;
 
@@ -65,12 +65,6 @@ pub(crate) fn shown<'a>(told: &Told<'a>) -> Mem<Vec<&'a [u8]>>
         }
     }
     Ok(texts)
-}
-
-fn marked_in(alloc: Global, text: &[u8]) -> Mem<Vec<Vec<u8>>>
-    ensures { IfOk result (λ names. words_of names.items ≡ marked_in text.now) }
-{
-    files_in(alloc, Named::Anywhere, &lines_after(alloc, b'#', text)?)
 }
 
 /// The files that the line markers of all texts name.
@@ -198,7 +192,7 @@ fn content<'a>(told: &Told<'a>, name: &[u8]) -> Mem<Option<&'a [u8]>>
 }
 
 /// The bytes of what is a file.
-fn content_at<'a>(told: &Told<'a>, name: &[u8]) -> Mem<Option<&'a [u8]>>
+pub(crate) fn content_at<'a>(told: &Told<'a>, name: &[u8]) -> Mem<Option<&'a [u8]>>
     ensures { IfOk result (λ text. option_copied text ≡ content_at (machine_of told.now) name.now) }
 {
     if !is_regular(told, name)? {

@@ -3,7 +3,7 @@
 //! A machine is a text of lines `QUESTION => ANSWER`: a file's sum, `/` of a folder, what a run writes. What no line asks for is not
 //! there, and such a run fails. In its texts `|` is the end of a line.
 use scl_cl::Mem;
-use scl_key::{Ask, Output, Part};
+use scl_key::{Ask, Direct, Output, Part};
 use scl_questions::{Answer, Field, Language, Program, Question, Standing, Written};
 use scl_rounds::{Key, Next, look_up};
 use std::alloc::Global;
@@ -71,15 +71,15 @@ fn parts(alloc: Global, key: &str) -> Mem<Vec<Part>> {
     Ok(parts)
 }
 
-/// The words of the rows `search`.
-fn searches(alloc: Global, key: &str) -> Mem<Vec<Vec<Vec<u8>>>> {
-    let mut searches = Vec::new(alloc);
+/// What finds the key without a run, of the rows `search`.
+fn direct(alloc: Global, key: &str) -> Mem<Vec<Direct>> {
+    let mut direct = Vec::new(alloc);
     for row in key.lines() {
         if let Some(fields) = row.strip_prefix("search ") {
-            searches.push(words(alloc, fields)?)?;
+            direct.push(Direct::Search(words(alloc, fields)?))?;
         }
     }
-    Ok(searches)
+    Ok(direct)
 }
 
 // ---- texts of questions, and machines
@@ -250,7 +250,7 @@ fn take_round(
 /// Talks until there is an end, in as many rounds as there are.
 fn talked(alloc: Global, key: &str, machine: &str) -> Mem<Talk> {
     let parts = parts(alloc, key)?;
-    let searches = searches(alloc, key)?;
+    let direct = direct(alloc, key)?;
     let mut answers = Vec::new(alloc);
     let mut talk = Talk {
         asked: Vec::new(alloc),
@@ -259,15 +259,18 @@ fn talked(alloc: Global, key: &str, machine: &str) -> Mem<Talk> {
     let key = Key {
         place: b"/w",
         parts: &parts,
-        searches: &searches,
+        direct: &direct,
     };
     for _ in 0..7 {
         match look_up(alloc, &key, &answers)? {
             Next::LookUp(questions) => {
                 take_round(alloc, &mut talk, &mut answers, machine, &questions)?
             }
-            Next::Found(rows) => {
+            Next::Found(rows, is_listed) => {
                 push_rows(&mut talk.end, &rows)?;
+                if is_listed {
+                    talk.end.extend_from_slice(b"listed")?;
+                }
                 return Ok(talk);
             }
             Next::Nothing => {
@@ -306,6 +309,7 @@ static PLAIN_MACHINE: &str = r#"env PWD => /home/w
 env LANG => C
 program  => of-gcc
 file a.c => of-a
+file i/s.h => of-s
 real /home/w => /disk/w
 real /w => /disk/w
 run -E -Ii a.c => # 1 "a.c"|# 1 "i/s.h" 1|int s;|# 2 "a.c" 2|int x = __LINE__;|
@@ -322,6 +326,7 @@ real /home/w
 real /w
 run -E -Ii a.c
 
+file i/s.h
 file i/i/s.h.gch
 file i/s.h.gch
 file s.h.gch
@@ -368,17 +373,21 @@ pch beside a.c folder j folder k";
 static WITHOUT_HEADER: &str = r#"run -E -Ij -Ik a.c => # 1 "a.c"|# 1 "k/h.h" 1|int h;|
 run -E -isystem j -Ik a.c => # 1 "a.c"|# 1 "k/h.h" 1|int h;|
 file a.c => of-a
+file k/h.h => of-h
 "#;
 
 static WITH_HEADER: &str = r#"run -E -Ij -Ik a.c => # 1 "a.c"|# 1 "k/h.h" 1|int h;|
 run -E -isystem j -Ik a.c => # 1 "a.c"|# 1 "k/h.h" 1|int h;|
+file k/h.h => of-h
 file k/h.h.gch => of-k
 file j/h.h.gch => /
 names j/h.h.gch => c.gch c++.gch
 file j/h.h.gch/c.gch => of-c
 "#;
 
-static PLACES: &str = "file j/k/h.h.gch
+static PLACES: &str = "file a.c
+file k/h.h
+file j/k/h.h.gch
 file j/h.h.gch
 file k/k/h.h.gch
 file k/h.h.gch
@@ -491,6 +500,8 @@ search -E -x c -v -";
 
 static WITH_SEARCH_ASKED: &str = "run-in-C -E -x c -v -
 
+file a.c
+file h.h
 file h.h.gch
 file q/h.h.gch
 file j/h.h.gch
@@ -499,8 +510,17 @@ file j/h.h.gch
 static WITH_SEARCH_BEHIND: &str = "file /usr/local/include/h.h.gch
 file /usr/include/x86_64-linux-gnu/h.h.gch
 file /usr/include/h.h.gch
-file a.c.gch
+";
 
+/// Where gcc ignores a folder, and clang.
+static GCC_IGNORES: &str = "file /usr/local/include/x86_64-linux-gnu/h.h.gch
+file /usr/lib/gcc/x86_64-linux-gnu/12/include-fixed/h.h.gch
+file /usr/lib/gcc/x86_64-linux-gnu/12/../../../../x86_64-linux-gnu/include/h.h.gch
+";
+
+static CLANG_IGNORES: &str =
+    "file /usr/bin/../lib/gcc/x86_64-linux-gnu/12/../../../../x86_64-linux-gnu/include/h.h.gch
+file /include/h.h.gch
 ";
 
 /// A text in the place of an answer.
@@ -514,24 +534,32 @@ fn in_one_line(alloc: Global, text: &str) -> Mem<Vec<u8>> {
 
 #[test]
 fn precompiled_headers_stand_where_the_compiler_searches(rt: HostRuntime) -> Result<(), Fail> {
-    for (said, own) in [
-        (GCC_SAYS, "/usr/lib/gcc/x86_64-linux-gnu/12/include"),
-        (CLANG_SAYS, "/usr/lib/llvm-14/lib/clang/14.0.6/include"),
+    for (said, own, ignored) in [
+        (
+            GCC_SAYS,
+            "/usr/lib/gcc/x86_64-linux-gnu/12/include",
+            GCC_IGNORES,
+        ),
+        (
+            CLANG_SAYS,
+            "/usr/lib/llvm-14/lib/clang/14.0.6/include",
+            CLANG_IGNORES,
+        ),
     ] {
         let line = in_one_line(rt.alloc(), said)?;
         let text = "# 1 \"a.c\"|# 1 \"h.h\" 1|int h;|";
         let says = shown(&line);
         let machine = format!(in rt.alloc();
-            "run -E a.c => {text}\nrun-in-C -E -x c -v - => {says}\nfile /usr/include/h.h.gch => of-h\n"
+            "run -E a.c => {text}\nrun-in-C -E -x c -v - => {says}\nfile h.h => of-h\nfile /usr/include/h.h.gch => of-gch\n"
         )?;
         let talk = talked(rt.alloc(), WITH_SEARCH, machine.as_str())?;
         let asked = shown(&talk.asked);
         let places = format!(in rt.alloc();
-            "run -E a.c\n{WITH_SEARCH_ASKED}file {own}/h.h.gch\n{WITH_SEARCH_BEHIND}"
+            "run -E a.c\n{WITH_SEARCH_ASKED}file {own}/h.h.gch\n{WITH_SEARCH_BEHIND}{ignored}file a.c.gch\n\nbytes h.h\n\n"
         )?;
-        assert!(rt; asked == places.as_str(), "{asked}");
+        assert!(rt; asked.starts_with(places.as_str()), "{asked}");
         let rows = shown(&talk.end);
-        assert!(rt; rows.contains(" :/usr/include/h.h.gch =of-h "), "{rows}");
+        assert!(rt; rows.contains(" :/usr/include/h.h.gch =of-gch "), "{rows}");
     }
     Ok(())
 }
@@ -542,9 +570,88 @@ fn a_search_that_fails_names_no_folders(rt: HostRuntime) -> Result<(), Fail> {
     let talk = talked(rt.alloc(), WITH_SEARCH, machine)?;
     let asked = shown(&talk.asked);
     assert!(rt;
-        asked.ends_with("\n\nfile h.h.gch\nfile a.c.gch\n\n"),
+        asked.ends_with("\n\nfile a.c\nfile h.h\nfile h.h.gch\nfile a.c.gch\n\n"),
         "{asked}"
     );
+    Ok(())
+}
+
+// ---- lists
+
+/// A line whose runs read two headers, one of them beside another that is not there.
+static LISTED: &str = "is input a.c
+run -E a.c
+search -E -x c -v -";
+
+static LISTED_MACHINE: &str = r#"run -E a.c => # 1 "a.c"|# 1 "i/h.h" 1|int h;|
+file a.c => of-a
+file i/h.h => of-h
+bytes i/h.h => int h;
+"#;
+
+static SEARCHED_FOLDERS: &str =
+    r#"run-in-C -E -x c -v - => ignoring nonexistent directory "/n"|#include "..." search starts here:|#include <...> search starts here:| i| /s|End of search list.|
+"#;
+
+static LISTED_ASKED: &str = "run -E a.c
+run-in-C -E -x c -v -
+
+file a.c
+file i/h.h
+
+bytes a.c
+bytes i/h.h
+
+real i
+real /s
+real /n
+file h.h
+file k.h
+file i/k.h
+file /s/h.h
+file /s/k.h
+file /n/h.h
+file /n/k.h
+
+";
+
+/// The end where the answers to all but the run stand for what it writes, and where they do not.
+static LISTED_END: &str = ":is :input :a.c\n:run :# 1 \"a.c\"|# 1 \"i/h.h\" 1|int h;| : :\nlisted";
+
+static UNLISTED_END: &str = ":is :input :a.c\n:run :# 1 \"a.c\"|# 1 \"i/h.h\" 1|int h;| : :\n";
+
+#[test]
+fn a_list_has_what_is_not_there(rt: HostRuntime) -> Result<(), Fail> {
+    let machine = format!(in rt.alloc();
+        "{LISTED_MACHINE}{SEARCHED_FOLDERS}bytes a.c => #include \"h.h\" #include <k.h>"
+    )?;
+    let talk = talked(rt.alloc(), LISTED, machine.as_str())?;
+    let (questions, told) = (shown(&talk.asked), shown(&talk.end));
+    assert!(rt; questions == LISTED_ASKED, "{questions}");
+    assert!(rt; told == LISTED_END, "{told}");
+    Ok(())
+}
+
+#[test]
+fn some_runs_have_no_list(rt: HostRuntime) -> Result<(), Fail> {
+    for (search, text) in [
+        (SEARCHED_FOLDERS, "int t = __TIME__;"),
+        (SEARCHED_FOLDERS, "#include HEADER"),
+        ("", "#include <k.h>"),
+        (
+            "run-in-C -E -x c -v - => | i|End of search list.|\n",
+            "#include <k.h>",
+        ),
+        (
+            "run-in-C -E -x c -v - => search starts here:| /f (framework directory)|End of search list.|\n",
+            "#include <k.h>",
+        ),
+    ] {
+        let machine = format!(in rt.alloc(); "{LISTED_MACHINE}{search}bytes a.c => {text}")?;
+        let talk = talked(rt.alloc(), LISTED, machine.as_str())?;
+        let told = shown(&talk.end);
+        assert!(rt; told == UNLISTED_END, "{told}");
+    }
     Ok(())
 }
 
@@ -598,6 +705,31 @@ bytes a.s
 
 ";
 
+/// The text of the run enters a header.
+static ENTERING: &str = "run -E a.c => # 1 \"a.c\"|# 1 \"h.h\" 1|int h;|";
+
+static ENTERED: &str = "run -E a.c\n\nfile a.c\nfile h.h\n\n";
+
+#[test]
+fn what_a_run_read_can_be_read_again(rt: HostRuntime) -> Result<(), Fail> {
+    for (files, end) in [
+        (
+            "file h.h => of-h",
+            ":run :# 1 \"a.c\"|# 1 \"h.h\" 1|int h;| : :\n",
+        ),
+        ("file h.h => !", "nothing"),
+        ("file h.h => of-h\nfile a.c => !", "nothing"),
+        ("file a.c => of-a", "nothing"),
+    ] {
+        let machine = format!(in rt.alloc(); "{ENTERING}\n{files}")?;
+        let talk = talked(rt.alloc(), "run -E a.c", machine.as_str())?;
+        let (questions, told) = (shown(&talk.asked), shown(&talk.end));
+        assert!(rt; questions == ENTERED, "{questions}");
+        assert!(rt; told == end, "{told}");
+    }
+    Ok(())
+}
+
 #[test]
 fn runs_may_fail(rt: HostRuntime) -> Result<(), Fail> {
     for (key, machine, asked, end) in [
@@ -638,7 +770,7 @@ fn answers_of_other_questions_are_refused(rt: HostRuntime) -> Result<(), Fail> {
     let key = Key {
         place: b"/w",
         parts: &parts,
-        searches: &[],
+        direct: &[],
     };
     let mut answers = Vec::new(rt.alloc());
     answers.push(Answer::Value(None))?;
@@ -650,7 +782,7 @@ fn answers_of_other_questions_are_refused(rt: HostRuntime) -> Result<(), Fail> {
     answers.pop();
     answers.push(Answer::Standing(Standing::Missing))?;
     let right = look_up(rt.alloc(), &key, &answers)?;
-    assert!(rt; matches!(right, Next::Found(_)));
+    assert!(rt; matches!(right, Next::Found(_, false)));
     answers.push(Answer::Value(None))?;
     let more = look_up(rt.alloc(), &key, &answers)?;
     assert!(rt; matches!(more, Next::Refused(2)));

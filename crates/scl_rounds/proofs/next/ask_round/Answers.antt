@@ -4,7 +4,7 @@ use Rattle.scl_questions.specs.Answers.{told}
 use Rattle.scl_questions.specs.Rounds.{asks, over, refused, joined, round}
 use Rattle.scl_questions.specs.Talks.{looks_up}
 use Rattle.scl_questions.specs.Views.{questions_of, replies_of}
-use Rattle.scl_rounds.specs.Answers.{rows_on}
+use Rattle.scl_rounds.specs.Answers.{outcome_on}
 use Rattle.scl_rounds.specs.Rounds.{stage}
 use Rattle.scl_rounds.specs.Views.{key_of}
 use Rattle.scl_rounds.proofs.CodeLemmas.{as_many, dropped}
@@ -21,7 +21,7 @@ returns-in-Over c =
     let every : questions_of c.ask_all.new.asked.items ≡ joined (questions_of c.args.asked.now.items) (questions_of c.in-Some.questions.items) = search rules in
     let so : over ≡ round (length (questions_of c.args.asked.now.items)) (questions_of c.ask_all.new.asked.items) (replies_of c.args.answers.now) = search rules in
     λ later.
-    stands (rows_on (key_of c.args.key.now)) (stage (key_of c.args.key.now) c.args.phase) later (questions_of c.args.asked.now.items) (questions_of c.ask_all.new.asked.items)
+    stands (outcome_on (key_of c.args.key.now)) (stage (key_of c.args.key.now) c.args.phase) later (questions_of c.args.asked.now.items) (questions_of c.ask_all.new.asked.items)
     (questions_of c.in-Some.questions.items) (replies_of c.args.answers.now) over asked every so
 
 pub returns-in_ok-split_off-in-Asks : goal.returns-in_ok-split_off-in-Asks
@@ -37,7 +37,7 @@ returns-in_ok-split_off-in-Asks c =
     = search (rules, dropped (length c.args.asked.now.items) c.ask_all.new.asked.items) in
     λ later.
     ap looks_up rest
-    ∙ stands (rows_on (key_of c.args.key.now)) (stage (key_of c.args.key.now) c.args.phase) later (questions_of c.args.asked.now.items) (questions_of c.ask_all.new.asked.items)
+    ∙ stands (outcome_on (key_of c.args.key.now)) (stage (key_of c.args.key.now) c.args.phase) later (questions_of c.args.asked.now.items) (questions_of c.ask_all.new.asked.items)
     (questions_of c.in-Some.questions.items) (replies_of c.args.answers.now) asks asked every so
 
 pub returns-in-Refused : goal.returns-in-Refused
@@ -50,5 +50,5 @@ returns-in-Refused c =
     let every : questions_of c.ask_all.new.asked.items ≡ joined (questions_of c.args.asked.now.items) (questions_of c.in-Some.questions.items) = search rules in
     let so : refused c.in-Refused.number ≡ round (length (questions_of c.args.asked.now.items)) (questions_of c.ask_all.new.asked.items) (replies_of c.args.answers.now) = search rules in
     λ later.
-    stands (rows_on (key_of c.args.key.now)) (stage (key_of c.args.key.now) c.args.phase) later (questions_of c.args.asked.now.items) (questions_of c.ask_all.new.asked.items)
+    stands (outcome_on (key_of c.args.key.now)) (stage (key_of c.args.key.now) c.args.phase) later (questions_of c.args.asked.now.items) (questions_of c.ask_all.new.asked.items)
     (questions_of c.in-Some.questions.items) (replies_of c.args.answers.now) (refused c.in-Refused.number) asked every so

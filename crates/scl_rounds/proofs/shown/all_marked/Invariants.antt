@@ -1,7 +1,7 @@
 use Rattle.std.proofs.Common.{◌≡◌, take, map}
 use Rattle.std.specs.List.{flat_map}
 use Rattle.scl_values.specs.Words.{words_of}
-use Rattle.scl_rounds.specs.Shown.{marked_in}
+use Rattle.scl_rounds.specs.Runs.{marked_in}
 use Rattle.scl_rounds.proofs.shown.all_marked.Given as goal
 
 abbrev pub invariant-loop-text : goal.invariant-loop-text
