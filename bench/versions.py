@@ -2,11 +2,11 @@
 import os
 import re
 
-MAKER, HELP = "crates/scl_requests/src/making.rt", "crates/scl_help/src/parts.rt"
+NAME, MAKER, HELP = "crates/scl_talks/src/name.rt", "crates/scl_requests/src/making.rt", "crates/scl_help/src/parts.rt"
 # Where each number stands: of the places with one the first is right. A file that is not there says nothing.
 PLACES = {
-    "release": [("CHANGELOG.md", r"^## (\d[\d.]*)$"), (MAKER, r'"made-by", b"(.*?)"'), (HELP, r'VERSION: &str = "(.*?)\\n')],
-    "rules": [("README.md", r"^\[sccache\]\(\S+\) ([\d.]+),"), (MAKER, r'"rules", b"(.*?)"'), (HELP, r'VERSION: &str = ".*\\nrules (.*?)\\n')],
+    "release": [("CHANGELOG.md", r"^## (\d[\d.]*)$"), (NAME, r'RELEASE: &str = "(.*?)"'), (HELP, r'VERSION: &str = "(.*?)\\n')],
+    "rules": [("README.md", r"^\[sccache\]\(\S+\) ([\d.]+),"), (NAME, r'RULES: &str = "(.*?)"'), (HELP, r'VERSION: &str = ".*\\nrules (.*?)\\n')],
     "protocol": [("capi/scl.h", r"^#define SCL_PROTOCOL (\d+)$"), (MAKER, r'"version", b"(.*?)"'), (HELP, r'VERSION: &str = ".*\\nprotocol (.*?)"')],
 }
 

@@ -68,6 +68,7 @@ any-kind kinds.Join c d request old new wanted status e h = h
 any-kind kinds.Map c d request old new wanted status e h = h
 any-kind kinds.Depfile c d request old new wanted status e h = h
 any-kind kinds.MadeBy c d request old new wanted status e h = h
+any-kind kinds.Lookup c d request old new wanted status e h = absurd (cc)
 any-kind kinds.Description c d request old new wanted status e h = absurd (cc)
 
 -- what is no description is answered alike by each catalogue

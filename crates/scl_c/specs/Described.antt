@@ -1,13 +1,16 @@
 -- What a call over texts in memory gives where a description is requested.
-use Rattle.std.specs.Prelude.{◌≡◌, ◌⊎◌, ◌-◌, ℕ, ℤ, pos, Bool, true, false, List, [], codes, get_or, Option, None, Some, Result, Ok, Err}
+use Rattle.std.specs.Prelude.{◌≡◌, ◌⊎◌, ◌-◌, ℕ, ℤ, pos, Bool, true, false, List, [], codes, drop, get_or, map, Option, None, Some, Result, Ok, Err}
 use Rattle.std.specs.Str.{bytes_eq}
 use Rattle.scl_files.specs.Characters.{space}
 use Rattle.scl_description.specs.Lines.{cut_at, lines_of}
 use Rattle.scl_reader.specs.CommandLines.{Request}
 use Rattle.scl_reader.specs.Answers.{AnswerIsReadAgain}
-use Rattle.scl_cl.specs.Requests.{request_in}
+use Rattle.scl_cl.specs.Requests.{request_from, request_in}
 use Rattle.scl_describe.specs.Settings.{request_lines}
 use Rattle.scl_requests.specs.Requests.{is_described, kind_of}
+use Rattle.scl_requests.specs.declared.requests.Kind.{Kind}
+use Rattle.scl_requests.specs.declared.requests.Kind.TheVariants as kinds
+use Rattle.scl_talks.specs.Talks.{left}
 use Rattle.scl_c.specs.Texts.{IsGiven, IsLonger}
 
 -- ---- a bad line
@@ -45,16 +48,21 @@ pub record IsDescribed (Answers : Result (List ℕ) ℕ → Type 0) (request old
   pub no_memory : status ≡ pos 3 → (wanted ≡ 0) × (new ≡ old)
   pub newer : status ≡ pos 5 → IsBad Answers request old new wanted true
 
--- The bytes make a request, and the command of its answer, if it has one, is read again.
-pub record IsAskedAgain (bytes : List ℕ) : Type 0 where
+-- the request of which a description, or what a lookup begins with, is given
+abbrev pub request_of : Kind → List ℕ → Result Request ℕ
+request_of kinds.Lookup bytes = request_from 2 [] (map left (drop 1 (lines_of bytes)))
+request_of other bytes = request_in (request_lines (lines_of bytes))
+
+-- The bytes make a request of the kind, and the command of its answer, if it has one, is read again.
+pub record IsAskedAgain (kind : Kind) (bytes : List ℕ) : Type 0 where
   pub request : Request
-  pub request_is : request_in (request_lines (lines_of bytes)) ≡ Ok request
+  pub request_is : request_of kind bytes ≡ Ok request
   pub read_again : AnswerIsReadAgain request
 
-abbrev pub AskedAgainIf : (is_described : Bool) → List ℕ → Type 0
-AskedAgainIf true bytes = IsAskedAgain bytes
-AskedAgainIf false bytes = Unit {0}
+abbrev pub AskedAgainIf : (is_described : Bool) → Kind → List ℕ → Type 0
+AskedAgainIf true kind bytes = IsAskedAgain kind bytes
+AskedAgainIf false kind bytes = Unit {0}
 
--- that is so of each request of a description; what else is answered has no command
+-- that is so of each request of a description, and of a lookup; what else is answered has no command
 abbrev pub AsksReadAgain : List ℕ → Type 0
-AsksReadAgain bytes = AskedAgainIf (is_described (kind_of (lines_of bytes))) bytes
+AsksReadAgain bytes = let kind = kind_of (lines_of bytes) in AskedAgainIf (is_described kind) kind bytes

@@ -10,6 +10,7 @@ use Rattle.scl_requests.specs.Making.{made_by}
 use Rattle.scl_requests.specs.Mapping.{mapped}
 use Rattle.scl_requests.specs.Naming.{named}
 use Rattle.scl_requests.specs.Requests.{AnswersBy, AnswersBytes, kind_of}
+use Rattle.scl_talks.specs.Talks.{looked_up}
 use Rattle.scl_requests.specs.declared.requests.Kind.{Kind}
 use Rattle.scl_requests.specs.declared.requests.Kind.TheVariants as kinds
 
@@ -53,3 +54,9 @@ pub depfile_said : (catalogue : Catalogue) (bytes : List ℕ) (lines : List (Lis
     → MatchResult said (λ text. AnswersBytes catalogue bytes (Ok text.items)) (λ number. AnswersBytes catalogue bytes (Err number))
 depfile_said catalogue bytes lines (Ok text) is are h = by_kind kinds.Depfile catalogue bytes (Ok text.items) is (subst (λ ls. IsSaid ls (Ok text.items)) are h)
 depfile_said catalogue bytes lines (Err number) is are h = by_kind kinds.Depfile catalogue bytes (Err number) is (subst (λ ls. IsSaid ls (Err number)) are h)
+
+pub lookup_said : (catalogue : Catalogue) (bytes : List ℕ) (lines : List (List ℕ)) (said : Result (Vec ℕ Global) ℕ) → kind_of (lines_of bytes) ≡ kinds.Lookup → lines ≡ drop 1 (lines_of bytes)
+    → MatchResult said (λ text. looked_up catalogue lines ≡ Ok text.items) (λ number. looked_up catalogue lines ≡ Err number)
+    → MatchResult said (λ text. AnswersBytes catalogue bytes (Ok text.items)) (λ number. AnswersBytes catalogue bytes (Err number))
+lookup_said catalogue bytes lines (Ok text) is are h = by_kind kinds.Lookup catalogue bytes (Ok text.items) is (subst (λ ls. looked_up catalogue ls ≡ Ok text.items) are h)
+lookup_said catalogue bytes lines (Err number) is are h = by_kind kinds.Lookup catalogue bytes (Err number) is (subst (λ ls. looked_up catalogue ls ≡ Err number) are h)

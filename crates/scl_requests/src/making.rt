@@ -5,6 +5,7 @@ ghost use Rattle.scl_requests.specs.Making.{made_by};
 
 use scl_cl::Mem;
 use scl_description::{next_line, push_word};
+use scl_talks::{RELEASE, RULES};
 use std::alloc::Global;
 
 /// What is answered to the lines after a first line `made-by`: there may be none.
@@ -16,8 +17,8 @@ pub(crate) fn made_by(alloc: Global, lines: &[u8]) -> Mem<Result<Vec<u8>, u64>>
         return Ok(Err(2));
     }
     let mut text = Vec::new(alloc);
-    push_word(&mut text, "made-by", b"1.0.0")?;
-    push_word(&mut text, "rules", b"0.19.0")?;
+    push_word(&mut text, "made-by", RELEASE.as_bytes())?;
+    push_word(&mut text, "rules", RULES.as_bytes())?;
     push_word(&mut text, "version", b"1")?;
     Ok(Ok(text))
 }

@@ -11,6 +11,7 @@ use crate::naming::named;
 use scl_cl::{Mem, Service};
 use scl_describe::{Catalogue, Descriptions};
 use scl_description::next_line;
+use scl_talks::looked_up;
 use std::alloc::Global;
 
 /// What a request asks.
@@ -26,6 +27,8 @@ pub enum Kind {
     Depfile,
     /// Which release answers.
     MadeBy,
+    /// What to look up next.
+    Lookup,
     /// A description.
     Description,
 }
@@ -44,6 +47,8 @@ fn kind_in(line: &[u8]) -> Kind
         Kind::Depfile
     } else if line == b"made-by".as_slice() {
         Kind::MadeBy
+    } else if line == b"lookup".as_slice() {
+        Kind::Lookup
     } else {
         Kind::Description
     }
@@ -59,13 +64,13 @@ fn kind_of(bytes: &[u8]) -> Kind
     }
 }
 
-/// Whether a description is requested. All else is answered without what is known of compilers, so who answers that need not
+/// Whether a description is requested, or a lookup, which begins with one. All else is answered without what is known of compilers, so who answers that need not
 /// read a catalogue.
 pub fn asks_description(bytes: &[u8]) -> bool
     ensures { result ≡ is_described (kind_of (lines_of bytes.now)) }
 {
     match kind_of(bytes) {
-        Kind::Description => true,
+        Kind::Description | Kind::Lookup => true,
         Kind::Name | Kind::Join | Kind::Map | Kind::Depfile | Kind::MadeBy => false,
     }
 }
@@ -82,7 +87,7 @@ fn after_first(bytes: &[u8]) -> &[u8]
 
 /// Answers a request by what its first line asks: what the name of a program means (`name`), the text of several runs of the
 /// preprocessor (`join`), a preprocessed text told by base directories (`map`), a dependency file (`depfile`), which
-/// release answers (`made-by`), and else a description, with what a catalogue knows of compilers (docs/PROTOCOL.md, A request).
+/// release answers (`made-by`), what to look up next (`lookup`), and else a description, with what a catalogue knows of compilers (docs/PROTOCOL.md, A request).
 #[derive(Debug, Clone, Copy)]
 pub struct Requests<'a> {
     /// What is known of compilers.
@@ -95,7 +100,7 @@ impl<'a> Service for Requests<'a> {
 
     ghost answers = { λ service bytes said. AnswersBytes (catalogue_of service.catalogue.now) bytes said };
 
-    #[tactic(auto, using(crate::proofs::RequestLaws::name_said, crate::proofs::RequestLaws::join_said, crate::proofs::RequestLaws::map_said, crate::proofs::RequestLaws::depfile_said, crate::proofs::RequestLaws::made_by_said, crate::proofs::RequestLaws::description_said))]
+    #[tactic(auto, using(crate::proofs::RequestLaws::name_said, crate::proofs::RequestLaws::join_said, crate::proofs::RequestLaws::map_said, crate::proofs::RequestLaws::depfile_said, crate::proofs::RequestLaws::made_by_said, crate::proofs::RequestLaws::lookup_said, crate::proofs::RequestLaws::description_said))]
     fn answer(&self, alloc: Global, bytes: Vec<u8>) -> Mem<Result<Vec<u8>, u64>> {
         match kind_of(&bytes) {
             Kind::Name => Ok(named(alloc, after_first(&bytes))?),
@@ -103,6 +108,7 @@ impl<'a> Service for Requests<'a> {
             Kind::Map => Ok(mapped(alloc, after_first(&bytes))?),
             Kind::Depfile => Ok(depfile_said(alloc, after_first(&bytes))?),
             Kind::MadeBy => Ok(made_by(alloc, after_first(&bytes))?),
+            Kind::Lookup => Ok(looked_up(alloc, self.catalogue, after_first(&bytes))?),
             Kind::Description => {
                 let descriptions = Descriptions {
                     catalogue: self.catalogue,

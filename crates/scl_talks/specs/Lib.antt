@@ -1,0 +1,4 @@
+pub mod Names
+pub mod Next
+pub mod Replies
+pub mod Talks
