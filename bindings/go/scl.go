@@ -118,6 +118,21 @@ func MadeBy() (Maker, error) {
 	return made, err
 }
 
+// Line is a line of a request: a keyword, and fields.
+func Line(fields ...string) string {
+	escaped := make([]string, len(fields))
+	for at, it := range fields {
+		escaped[at] = field(it)
+	}
+	return strings.Join(escaped, " ")
+}
+
+// Rows gives the rows of the answer to a request of any kind, which has these lines (docs/PROTOCOL.md, A request).
+func Rows(lines []string) ([]Row, error) {
+	said, err := otherAnswer(strings.Join(append(lines, ""), "\n"))
+	return said.Rows, err
+}
+
 // otherAnswer gives the rows that are answered to a request of another kind than of a command line.
 func otherAnswer(request string) (Answer, error) {
 	text, err := respond("", request)

@@ -93,6 +93,20 @@ func TestTheMakerIsNamed(t *testing.T) {
 	}
 }
 
+func TestARequestOfAnyKindIsAnswered(t *testing.T) {
+	rows, err := Rows([]string{"lookup", Line("compiler", "gcc"), Line("word", "-c"), Line("word", "\xff a.c")})
+	isAsked := false
+	for _, row := range rows {
+		isAsked = isAsked || row.Name == "ask" && strings.Join(row.Fields, "|") == "file|\xff a.c"
+	}
+	if err != nil || !isAsked {
+		t.Errorf("%q %v", rows, err)
+	}
+	if _, err := Rows([]string{"what-none-knows"}); !errors.Is(err, ErrNewer) {
+		t.Error(err)
+	}
+}
+
 func TestALongAnswerHasRoom(t *testing.T) {
 	request := Request{Compiler: "gcc", Words: []string{"-c", "a.c"}}
 	for at := 0; at < 5000; at++ {

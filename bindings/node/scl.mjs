@@ -27,6 +27,9 @@ const escaped = (it, others) => Buffer.from(it).toString("latin1").replace(other
 const field = (it) => escaped(it, /[^!-[\]-~]/g), setting = (it) => escaped(it, /[^ -~]/g);
 const bytes = (it) => Buffer.from(it.replace(/\\x(..)/g, (_, digits) => String.fromCharCode(parseInt(digits, 16))), "latin1");
 
+/** A line of a request: a keyword, and fields. */
+export const line = (...fields) => fields.map(field).join(" ");
+
 /** The text of a request. */
 export function request({compiler, words = [], directory = "", environment = [], files = [], directories = [], existing = [], settings = [],
   bases = []}) {
@@ -81,6 +84,11 @@ function makerOf(lines) {
   const {"made-by": release, rules, version} = Object.fromEntries(lines.map((line) => line.split(" ")));
   if (!release || !rules || version !== PROTOCOL) throw new Error("not known to this library");
   return {release: String(bytes(release)), rules: String(bytes(rules)), protocol: version};
+}
+
+function rowsOf(lines) {
+  if (!lines.includes(`version ${PROTOCOL}`)) throw new Error(`not known here: ${lines[0]}`);
+  return lines.map((it) => it.split(" ").map(bytes));
 }
 
 // What a status of the program means (docs/PROTOCOL.md, Statuses).
@@ -162,6 +170,11 @@ export class Scl {
   /** Which release answers, as `1.0.0`, by the rules of which sccache, as `0.19.0`, and the protocol: what a cache has to tell apart. */
   async madeBy() {
     return this.#respond("made-by\n", makerOf);
+  }
+
+  /** The rows of the answer to a request of any kind, which has these lines (docs/PROTOCOL.md, A request); each is an array of Buffers. */
+  async rows(lines) {
+    return this.#respond(lines.map((it) => it + "\n").join(""), rowsOf);
   }
 
   #respond(text, read) {

@@ -4,7 +4,8 @@ import {existsSync, mkdtempSync, rmSync} from "node:fs";
 import {tmpdir} from "node:os";
 import {join} from "node:path";
 import {test} from "node:test";
-import {Answer, Scl, request} from "./scl.mjs";
+import {run} from "./processes.mjs";
+import {Answer, Scl, line, request} from "./scl.mjs";
 
 const DESCRIBE = process.env.DESCRIBE ?? "describe";
 const plain = {compiler: "gcc", words: ["-c", "a.c"]};
@@ -53,6 +54,23 @@ test("what made the answers is told", async () => {
   assert.match(rules, /^\d+\.\d+\.\d+$/);
   assert.equal(protocol, "1");
   scl.close();
+});
+
+test("a request of any kind is answered", async () => {
+  const scl = new Scl(DESCRIBE);
+  const rows = await scl.rows(["lookup", "compiler gcc", "word -c", line("word", Buffer.from("\xff a.c", "latin1"))]);
+  assert.ok(rows.some((row) => row.map((it) => it.toString("latin1")).join("|") === "ask|file|\xff a.c"));
+  await assert.rejects(scl.rows(["what-none-knows"]), /not known here/);
+  scl.close();
+});
+
+test("a process gets any bytes", () => {
+  for (const [word, value] of [["\xff'\n ", "a"], ["a", "\x80'"], ["\xc3\xa9", "\xc3\xa9"]]) {
+    const command = ["/bin/sh", "-c", 'printf "%s|%s" "$1" "$V"; exit 3', "sh", word];
+    const ran = run(command, new Map([["V", value], ["PATH", "/usr/bin:/bin"]]), ["ignore", "pipe", "pipe"]);
+    assert.equal(ran.stdout.toString("latin1"), `${word}|${value}`);
+    assert.equal(ran.status, 3);
+  }
 });
 
 for (const said of ["bad-line 1", "rules 1\\nversion 1", "made-by 1\\nversion 1", "made-by 1\\nrules 1\\nversion 2"])

@@ -22,4 +22,4 @@ pub use answer::{Answer, KeyRow, Outcome, Output, Row};
 pub use catalogue::Catalogue;
 pub use maker::{made_by, Maker};
 pub use name::{name, Name};
-pub use request::{Error, Request};
+pub use request::{line, rows, Error, Request};

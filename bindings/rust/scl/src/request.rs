@@ -1,6 +1,8 @@
 //! Requests, and the call of the library.
+use crate::answer::{field_of, rows_in, Row};
 use crate::catalogue::{built_in, Catalogue};
 use crate::Answer;
+use std::borrow::Cow;
 use std::fmt;
 use std::sync::Arc;
 
@@ -177,6 +179,38 @@ fn put_byte(to: &mut Vec<u8>, byte: u8, is_plain: bool) {
     }
 }
 
+/// A line of a request: a keyword, and fields.
+pub fn line<Field: AsRef<[u8]>>(fields: impl IntoIterator<Item = Field>) -> Vec<u8> {
+    let mut to = Vec::new();
+    for field in fields {
+        put_field(&mut to, field.as_ref());
+        to.push(b' ');
+    }
+    to.pop();
+    to
+}
+
+/// The rows of the answer to a request of any kind, which has these lines (docs/PROTOCOL.md, A request); each is a name and fields.
+/// [`Error::Newer`]: the library does not answer such requests.
+pub fn rows<Line: AsRef<[u8]>>(
+    lines: impl IntoIterator<Item = Line>,
+) -> Result<Vec<Vec<Vec<u8>>>, Error> {
+    let mut request = Vec::new();
+    for line in lines {
+        request.extend(line.as_ref());
+        request.push(b'\n');
+    }
+    let text = respond_to_other(&request)?;
+    if field_of(&text, b"version").as_deref() != Some("1") {
+        return Err(Error::Newer);
+    }
+    let bytes = |row: Row<'_>| {
+        let fields = row.fields().map(Cow::into_owned);
+        std::iter::once(row.name().to_vec()).chain(fields).collect()
+    };
+    Ok(rows_in(&text).map(bytes).collect())
+}
+
 /// The text that is answered to a request of another kind than of a command line.
 pub(crate) fn respond_to_other(request: &[u8]) -> Result<Vec<u8>, Error> {
     respond(&*built_in()?, request).map_err(|error| match error {
@@ -230,6 +264,23 @@ mod tests {
             .directory("/w d");
         let text = b"compiler gcc\ncwd /w\\x20d\nword a\\x20b\\x5c\\xff\nfile /r\tx\\x0a\nsetting version a b\nsetting base /w\\x20d\n";
         assert_eq!(request.text(), text);
+    }
+
+    #[test]
+    fn a_request_of_any_kind_is_answered() {
+        let lines = [
+            line(["lookup"]),
+            line(["compiler", "gcc"]),
+            line(["word", "-c"]),
+            line([&b"word"[..], b"\xff a.c"]),
+        ];
+        let rows = rows(lines).unwrap();
+        assert!(rows.contains(&vec![
+            b"ask".to_vec(),
+            b"file".to_vec(),
+            b"\xff a.c".to_vec()
+        ]));
+        assert_eq!(super::rows(["what-none-knows"]), Err(Error::Newer));
     }
 
     #[test]
