@@ -83,7 +83,7 @@ plain debug-information
   says It says what debug information there is.
   gcc, clang: any DEBUGGING
   gcc, clang: any NOT_DEBUGGING
-  clang-cl: any unknown -g* ! -gen-* -gcc* | flag -Z7 /Z7
+  clang-cl: any unknown -g* ! -gen-* -gcc* | unknown -fdebug-macro | flag -Z7 /Z7
   clang, clang-cl: inner any DEBUGGING
   clang, clang-cl: inner any NOT_DEBUGGING
 
@@ -182,7 +182,7 @@ plain options-of-others
 
 # ---- the same, each by its whole name
 
-group SHARED_WORD_NAMES: unknown --pipe --trigraphs -C -CC -H -S -dD -dI -dM -no-canonical-prefixes -no-pie -nostartfiles -nostdlib -pg -pie -pthread -r -rdynamic -s -shared -static -t -time -undef -v | flag -C -H
+group SHARED_WORD_NAMES: unknown --pipe --trigraphs --verbose -C -CC -H -S -dD -dI -dM -no-canonical-prefixes -no-pie -nostartfiles -nostdlib -pg -pie -pthread -r -rdynamic -s -shared -static -t -time -undef -v | flag -C -H
 plain shared-word-names
   says Each does nothing of the kind.
   gcc, clang, clang-cl: any SHARED_WORD_NAMES
@@ -218,7 +218,7 @@ plain assembler-names
   gcc, clang: any ASSEMBLER_NAMES
   clang: inner any ASSEMBLER_NAMES
 
-group GCC_WORD_NAMES: unknown --comments --comments-in-macros --no-line-commands --no-standard-includes --profile --trace-includes --traditional-cpp --verbose -Mmodules -Mno-modules -dA -dH -dN -dU -dp -dx -no-integrated-cpp -nodefaultlibs -p -pass-exit-codes -traditional-cpp
+group GCC_WORD_NAMES: unknown --comments --comments-in-macros --no-line-commands --no-standard-includes --profile --trace-includes --traditional-cpp -Mmodules -Mno-modules -Q -dA -dH -dN -dU -dp -dx -no-integrated-cpp -nodefaultlibs -p -pass-exit-codes -traditional-cpp
 plain gcc-word-names
   says Each does nothing of the kind.
   gcc: any GCC_WORD_NAMES
@@ -313,7 +313,7 @@ plain whole-file-pass-names
   says It says which passes change the code.
   gcc: any WHOLE_FILE_PASS_NAMES
 
-group CLANG_WORD_NAMES: unknown --cuda-compile-host-device --cuda-device-only --cuda-host-only --cuda-noopt-device-debug --cuda-path-ignore-env --end-no-unused-arguments --gpu-bundle-output --gpu-use-aux-triple-only --no-cuda-version-check --no-gpu-bundle-output --no-pedantic --relocatable-pch --shared --start-no-unused-arguments --static --via-file-asm -Qn -Qunused-arguments -Qy -canonical-prefixes -emit-ast -emit-llvm -ibuiltininc -no-pedantic -no-pthread -nobuiltininc -nocudainc -nocudalib -nogpuinc -nogpulib -nohipwrapperinc -nostdlibinc -shared-libsan -static-libgfortran -static-libsan -static-openmp -static-pie -via-file-asm
+group CLANG_WORD_NAMES: unknown --cuda-compile-host-device --cuda-device-only --cuda-host-only --cuda-noopt-device-debug --cuda-path-ignore-env --end-no-unused-arguments --gpu-bundle-output --gpu-use-aux-triple-only --no-cuda-version-check --no-gpu-bundle-output --no-pedantic --relocatable-pch --shared --start-no-unused-arguments --static --via-file-asm -Q -Qn -Qunused-arguments -Qy -canonical-prefixes -emit-ast -emit-llvm -ibuiltininc -no-pedantic -no-pthread -nobuiltininc -nocudainc -nocudalib -nogpuinc -nogpulib -nohipwrapperinc -nostdlib++ -nostdlibinc -shared-libsan -static-libgfortran -static-libsan -static-openmp -static-pie -via-file-asm
 plain clang-word-names
   says Each does nothing of the kind.
   clang, clang-cl: any CLANG_WORD_NAMES
@@ -403,7 +403,7 @@ plain xray-names
   clang, clang-cl: any XRAY_NAMES
   clang, clang-cl: inner any XRAY_NAMES
 
-group CLANG_ALONE_NAMES: unknown -fdebug-macro -ftree-slp-vectorize -ftree-vectorize
+group CLANG_ALONE_NAMES: unknown -fdebug-macro -fheinous-gnu-extensions -fpcc-struct-return -freg-struct-return -fropi -frwpi -ftree-slp-vectorize -ftree-vectorize
 plain clang-alone-names
   says Each does nothing of the kind.
   clang: any CLANG_ALONE_NAMES
@@ -415,7 +415,7 @@ plain clang-16-names
   clang since 16: any CLANG_16_NAMES
   clang since 16: inner any CLANG_16_NAMES
 
-group CLANG_19_NAMES: unknown -fassume-nothrow-exception-dtor -fassume-unique-vtables -fbasic-block-address-map -fcomplex-arithmetic=basic -fcomplex-arithmetic=full -fcomplex-arithmetic=improved -fcomplex-arithmetic=promoted -fcx-fortran-rules -fcx-limited-range -fdefine-target-os-macros -fdisable-block-signature-string -femit-compact-unwind-non-canonical -fexperimental-late-parse-attributes -fkeep-persistent-storage-variables -fopenmp-force-usm -fpointer-tbaa -fraw-string-literals -fsafe-buffer-usage-suggestions -fseparate-named-sections -fverify-intermediate-code
+group CLANG_19_NAMES: unknown -fassume-nothrow-exception-dtor -fassume-unique-vtables -fassumptions -fbasic-block-address-map -fcomplex-arithmetic=basic -fcomplex-arithmetic=full -fcomplex-arithmetic=improved -fcomplex-arithmetic=promoted -fcoverage-mcdc -fcx-fortran-rules -fcx-limited-range -fdefine-target-os-macros -fdisable-block-signature-string -femit-compact-unwind-non-canonical -fexperimental-late-parse-attributes -fkeep-persistent-storage-variables -fopenmp-force-usm -fpointer-tbaa -fraw-string-literals -fsafe-buffer-usage-suggestions -fseparate-named-sections -fverify-intermediate-code
 plain clang-19-names
   says Each does nothing of the kind.
   clang since 19: any CLANG_19_NAMES

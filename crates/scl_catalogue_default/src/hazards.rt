@@ -13,7 +13,7 @@ group TEXT: unknown --dependencies --preprocess --user-dependencies
 group ASSEMBLY: unknown --assemble -S
 group ONE_OUTPUT: kind split-dwarf | unknown --dependencies --preprocess --user-dependencies | unknown --assemble -S
 group SPLIT: kind split-dwarf
-group DEBUG: kind split-dwarf | unknown -g* --debug* ! -grecord* -gno-* -g0*
+group DEBUG: unknown -g* --debug* ! -grecord* -gno-* -g0*
 group LEVEL_OF_MACROS: unknown -g3 -ggdb3 -gstabs3 -gvms3 -gxcoff3 --debug=3
 group LEVEL_BELOW: unknown -g0 -g1 -g2 -ggdb0 -ggdb1 -ggdb2 -gstabs0 -gstabs1 -gstabs2 -gvms0 -gvms1 -gvms2 -gxcoff0 -gxcoff1 -gxcoff2 --debug=0 --debug=1 --debug=2
 group RECORDING: kind split-dwarf | unknown -g* --debug* -frecord-gcc-switches* -fverbose-asm*
@@ -72,6 +72,8 @@ group CL_DEBUG: flag -Z7 /Z7 -Zi /Zi -ZI /ZI | unknown -g*
 group CL_DEBUG_14: flag -Z7 /Z7 -Zi /Zi -ZI /ZI | unknown -g* ! -g -g0 -g1 -g2 -g3 -ggdb -ggdb0 -ggdb3 -gdwarf-2 -gdwarf-3 -gdwarf-4 -gdwarf-5 -gmodules
 group WINDOWS_TARGET: unknown *windows* *msvc* *win32* *mingw* *cygwin* *uefi* | flag -target --target & value *windows* *msvc* *win32* *mingw* *cygwin* *uefi*
 group CODEVIEW_TARGET: unknown *windows* *msvc* *win32* *mingw* *cygwin* *uefi* ! *-w64-mingw32 *-windows-gnu *-pc-cygwin | flag -target --target & value *windows* *msvc* *win32* *mingw* *cygwin* *uefi* ! *-w64-mingw32 *-windows-gnu *-pc-cygwin
+group CL_PUT_FIRST: flag -F -I -MD -MF -MMD -MP -MQ -MT -fno-working-directory -fworking-directory -idirafter -iframework -imacros -imultilib -include -include-pch -iprefix -iquote -isysroot -isystem -iwithprefix -iwithprefixbefore -nostdinc -nostdinc++ -remap -trigraphs
+group CL_LEFT_BEHIND: unknown * | flag * ! -F -I -MD -MF -MMD -MP -MQ -MT -fno-working-directory -fworking-directory -idirafter -iframework -imacros -imultilib -include -include-pch -iprefix -iquote -isysroot -isystem -iwithprefix -iwithprefixbefore -nostdinc -nostdinc++ -remap -trigraphs
 group CL_TAKING_NEXT: unknown -diasdkdir -vctoolsdir -vctoolsversion -winsdkdir -winsdkversion -winsysroot
 group CL_CUT_SHORT: flag -isystem & joined & value -after* | flag -iframework & joined & value withsysroot*
 group CL_PREPROCESSOR: flag -D /D -FI /FI -I /I -U /U -imsvc /imsvc
@@ -139,19 +141,21 @@ hazard order-of-recorded-words object
 
 hazard command-in-bitcode object
   says The object's bitcode section holds the built command.
-  clang: any unknown -fembed-bitcode-marker -fembed-bitcode=marker
+  clang: any unknown -fembed-bitcode-marker -fembed-bitcode=marker ; not language assembler assembler-with-cpp
 
 hazard command-in-codeview object
   says The debug information of Windows holds the built command.
-  clang since 14: any kind split-dwarf | unknown -g* --debug* ! -g0* | flag -gcodeview ; any CODEVIEW_TARGET ; not last unknown -gno-codeview-command-line > unknown -gcodeview-command-line
+  clang since 14: any unknown -g* --debug* ! -g0* | flag -gcodeview ; any CODEVIEW_TARGET ; not any unknown -gdwarf -gdwarf-2 -gdwarf-3 -gdwarf-4 -gdwarf-5 ; not last unknown -gno-codeview-command-line > unknown -gcodeview-command-line
   clang since 14: any flag -gcodeview | unknown -gcodeview* ; any WINDOWS_TARGET ; not last unknown -gno-codeview-command-line > unknown -gcodeview-command-line
   clang since 14: inner any flag -gcodeview ; any WINDOWS_TARGET
   clang-cl since 14 until 15: any CL_DEBUG_14 ; inner any flag -B -D -F -I -U -u -z & apart
   clang-cl since 14 until 15: any CL_DEBUG_14 ; before flag -external:I /external:I & joined > CL_PREPROCESSOR
   clang-cl since 14 until 15: any CL_DEBUG_14 ; inner any unknown -grecord-command-line -grecord-gcc-switches
+  clang-cl since 14 until 15: any CL_DEBUG_14 ; any flag -Xclang ; inner before CL_LEFT_BEHIND > CL_PUT_FIRST
   clang-cl since 15: any CL_DEBUG ; inner any flag -B -D -F -I -U -u -z & apart
   clang-cl since 15: any CL_DEBUG ; before flag -external:I /external:I & joined > CL_PREPROCESSOR
   clang-cl since 15: any CL_DEBUG ; inner any unknown -grecord-command-line -grecord-gcc-switches
+  clang-cl since 15: any CL_DEBUG ; any flag -Xclang ; inner before CL_LEFT_BEHIND > CL_PUT_FIRST
 
 hazard color-stored object
   says The precompiled header, module or tree stores the colour option that is added.
@@ -159,7 +163,7 @@ hazard color-stored object
   gcc, clang: any LONG_HEADER ; not last COLOR_KEPT > COLOR
   clang until 19: any kind module-only-flag ; not last COLOR_KEPT > COLOR ; not language assembler assembler-with-cpp ; not language c objective-c
   clang since 16 until 19: any kind clang-module-output ; not last COLOR_KEPT > COLOR ; language c++-module
-  clang: any unknown -emit-ast ; not last COLOR_KEPT > COLOR
+  clang: any unknown -emit-ast ; not last COLOR_KEPT > COLOR ; not language assembler assembler-with-cpp
   clang: inner any EMIT_PCH ; not last COLOR_KEPT > COLOR
 
 hazard text-in-object object
@@ -201,7 +205,11 @@ hazard output-elsewhere object
   gcc: any unknown -### --help --version --target-help -dumpfullversion -dumpmachine -dumpspecs -dumpversion -print-* --print-*
   gcc: language rs ; not any LANGUAGE
   clang: any TEXT ; language assembler
+  clang: any unknown -emit-ast ; language assembler
   clang: any unknown -### -help --help --help-hidden --version -dumpmachine -dumpversion -ccc-print-* -print-* --print-* ! -print-ivar-layout -print-rocm-search-dirs --print-rocm-search-dirs
+  clang since 15: any unknown -fdriver-only
+  clang since 16: last kind clang-module-output & value \e > kind clang-module-output & value * ! \e ; language c++-module
+  clang since 16: any kind clang-module-output ; not language c++-module
   clang-cl: last CL_JOINED_OUTPUT > CL_OUTPUT
   clang-cl: any unknown -### -help --version --analyze
   clang-cl: language c-header c++-header header objective-c-header objective-c++-header ; not any flag -TC /TC -TP /TP
@@ -211,6 +219,7 @@ hazard output-elsewhere object
   clang-cl: language assembler-with-cpp ; any flag -clang: /clang: & value -frewrite-imports -frewrite-includes -verify-pch
   clang-cl: object \e
   clang-cl since 15: any kind output & value :*
+  clang-cl since 15: any unknown -fdriver-only
 
 hazard output-is-no-file object
   says An output goes to standard output or a device, and is no file that can be kept.
@@ -289,9 +298,12 @@ hazard flag-takes-next-word object
   gcc: unfollowed unknown --dump --dumpbase --dumpbase-ext --dumpdir --output-pch= -Hd -Hf -J -R -Xf -auxbase -d -dumpbase -dumpbase-ext -dumpdir -fintrinsic-modules-path -gnatO -h -imultiarch -wrapper > option * & stays
   clang: unfollowed unknown --analyzer-output --classpath --config -Xanalyzer -Xarch_* -Xcuda-* -Xopenmp-target* -Xparser -allowable_client -arcmt-migrate-report-output -bundle_loader -c-isystem -ccc-arcmt-migrate -ccc-gcc-name -ccc-install-dir -ccc-objcmt-migrate -client_name -compatibility_version -current_version -cxx-isystem -dylib_file -dylinker_install_name -exported_symbols_list -fexec-charset -filelist -force_load -framework -ftrapv-handler -fxray-instruction-threshold -gen-cdb-fragment-path -iframeworkwithsysroot -image_base -init -iwithsysroot -meabi -mthread-model -multiply_defined* -pagezero_size -read_only_relocs -reexport_* -resource-dir -rpath -sect* -seg_addr_table* -segaddr -segcreate -segprot -segs_read_* -serialize-diagnostics -stdlib++-isystem -sub_* -umbrella -unexported_symbols_list -weak_* ! -Xarch_host > option * & stays
   clang until 16: unfollowed unknown -fxray-instruction-threshold= -fxray-instrumentation-bundle= -fxray-modes= > option * & stays
+  clang since 15: unfollowed unknown -Xoffload-linker* -darwin-target-variant -darwin-target-variant-triple > option * & stays
+  clang since 17: unfollowed unknown -fexperimental-openacc-macro-override -hlsl-entry -iapinotes-modules -validator-version > option * & stays
   clang: any flag -u & joined & value ndefined mbrella nexported_symbols_list
   clang-cl: any unknown -link
   clang-cl: unfollowed CL_TAKING_NEXT > option * & stays
+  clang-cl since 15: unfollowed unknown -darwin-target-variant -darwin-target-variant-triple > option * & stays
 
 hazard host-flag-takes-next-word object
   says Clang takes the word after -Xarch_host as a flag for the host, and the built command has another word there.
@@ -325,13 +337,15 @@ hazard delimiter-dropped failure
   clang-cl: any flag * & delimiter-dropped ; any CL_FATAL
 
 hazard order-of-searched-folders object
-  says Folders are searched for headers in another order.
+  says Folders are searched for headers, or macros are defined, in another order.
   gcc, clang: before unknown --include-barrier --include-directory --include-directory=* --include-with-prefix-before --include-with-prefix-before=* > flag -I -iwithprefixbefore -F
   gcc, clang: before unknown --include-directory-after --include-directory-after=* --include-with-prefix --include-with-prefix=* --include-with-prefix-after --include-with-prefix-after=* > flag -idirafter -iwithprefix ; not language assembler
   clang: before unknown -iwithsysroot* > flag -isystem -iframework ; not language assembler
+  clang since 16: any flag -Xclang ; any unknown -Xclang=*
   clang-cl: inner before unknown --include-barrier --include-directory --include-directory=* --include-with-prefix-before --include-with-prefix-before=* > flag -I -iwithprefixbefore -F
   clang-cl: inner before unknown --include-directory-after --include-directory-after=* --include-with-prefix --include-with-prefix=* --include-with-prefix-after --include-with-prefix-after=* > flag -idirafter -iwithprefix
   clang-cl: inner before unknown -iwithsysroot* > flag -isystem -iframework
+  clang-cl since 16: any flag -Xclang ; any unknown -Xclang=*
 
 hazard order-of-included-files object
   says Files are included in another order.
@@ -372,9 +386,9 @@ hazard target-unasked side-file
   gcc: preprocessed ; any TARGET ; not any NEED ; other-target
   gcc: preprocessed ; any TARGET ; not any NEED ; not any ASKED_DEPENDENCIES
   gcc: preprocessed ; any TARGET ; not any NEED ; any HANDED_RULES ; renamed-object
-  clang: preprocessed ; any TARGET ; any OTHER_DEPENDENCIES ; not any NEED ; other-target
-  gcc, clang: preprocessed ; any TARGET ; any OTHER_DEPENDENCIES ; not any NEED ; two TARGETS
-  gcc, clang: preprocessed ; any TARGET ; any OTHER_DEPENDENCIES ; not any NEED ; object *\x20* *\x09* *$* *#*
+  clang: preprocessed ; any TARGET ; any ASKED_DEPENDENCIES ; not any NEED ; other-target
+  gcc, clang: preprocessed ; any TARGET ; any ASKED_DEPENDENCIES ; not any NEED ; two TARGETS
+  gcc, clang: preprocessed ; any TARGET ; any ASKED_DEPENDENCIES ; not any NEED ; object *\x20* *\x09* *$* *#*
   clang: preprocessed ; any TARGET ; inner any INNER_DEPENDENCIES ; not any NEED
   clang: any TARGET ; last UNUSED_FATAL > UNUSED_NOT_FATAL ; not any NEED ; not any SILENT_UNUSED ; not last UNUSED_OFF > UNUSED_ON
   clang: any TARGET ; last FATAL > NOT_FATAL ; not any NEED ; not any SILENT_UNUSED ; not last UNUSED_OFF > UNUSED_ON ; not any UNUSED_FATAL ; not any UNUSED_NOT_FATAL
@@ -535,4 +549,8 @@ hazard unused-words-dropped failure
 hazard order-of-warnings messages
   says Warnings of unused words come in another order.
   clang-cl: inner before unknown * > flag -MF -MQ -MT
+
+hazard command-shown messages
+  says Messages show the built command in place of the given one, and of gcc names of temporary files, which are others at each run.
+  gcc, clang: any unknown -v --verbose
 "##;
