@@ -22,6 +22,7 @@ MACRO = re.compile(rb"-D([^=(]*)(.*)", re.S)  # a word that defines one: its nam
 NAME = re.compile(rb"\w+")
 BROUGHT = b"L LL U UL ULL char double float int long short signed unsigned"  # names from macros that compilers define
 shown = []  # what each run of the preprocessor wrote
+runs = []  # the words of each, with which it is run again after a miss
 complaints = []  # what it wrote to standard error
 sources = []  # the files that its markers name
 names = set()  # the names in these files
@@ -132,6 +133,7 @@ def preprocessed(words, may_fail):  # what a run writes, also into a file of the
         ran = quietly([COMMAND[0], *(own.name if word == b"\0" else word for word in words)])
         if ran.returncode: return need(may_fail and not shown, "no run") or b"-"
         shown.append(ran.stdout)
+        runs.append([b"/dev/null" if word == b"\0" else word for word in words])
         complaints.append(ran.stderr)
         take_markers(ran.stdout)
         return told_run(ran.stdout) + digest(told_text(unbroken(content(own.name))))
@@ -217,6 +219,7 @@ def compile_and_keep(entry, rows, outputs):
     written = [path for path in outputs if stamp(path) not in (None, before[path])]
     is_whole = not ran.returncode and not ran.stdout and all(path in written or outputs[path] for path in outputs)
     is_kept = is_whole and all(stamp(path) == was and (not was or was[3] < STARTED) for path, was in stamps.items())
+    is_kept = is_kept and all(quietly([COMMAND[0], *words]).stdout == text for words, text in zip(runs, shown))
     is_kept = is_kept and is_told(ran.stderr, [content(path) for path in written if path in rules])
     texts = [it for path in written for it in (told(path), told_text(content(path)) if path in rules else content(path))]
     if is_kept: keep(entry, [told_text(ran.stderr), *texts])

@@ -527,6 +527,7 @@ struct Key {
     Bytes planned;                  // what the driver wrote of its plan
     bool has_colors, is_clang = false, has_else = false, has_failed = false;
     Words texts, sources, first;    // what runs wrote; the files that they name; those that they name before other text
+    std::vector<Words> runs;        // the words of these runs
 
     Key(const Bytes &program, scl::Answer &&answer) : compiler(program), said(std::move(answer)) {
         Bytes why(said.reason());
@@ -719,6 +720,7 @@ struct Key {
     // What the preprocessor writes, also into a file of the cache's own.
     Bytes preprocessed(Words words) {
         const Bytes own = store + "/own" + mine;
+        const Words given = words;
         std::replace(words.begin(), words.end(), Bytes(1, '\0'), own);
         const Ran ran = run(Words{compiler} + words, true);
         const Bytes written = is_file(own) ? content(own) : "";
@@ -727,10 +729,21 @@ struct Key {
         if (ran.status && has_else && !has_failed) return has_failed = true, "failed";
         need(!ran.status, "a run fails");
         texts.push_back(ran.out);
+        runs.push_back(given);
         take_markers(ran.out);
         const Bytes all = told_run(ran.out, is_clang ? "clang" : "gcc") + sum_of(told_text(unbroken(written)));
         static const Bytes loaded = "^#pragma GCC pch_preprocess " + string_pattern;  // precompiled headers
         return all + (has_failed ? read_all(each(cut(ran.out, loaded).found, unquoted)) : "");
+    }
+
+    // A header that came to stand in an earlier folder after a run is in the object, and in no text.
+    bool do_runs_write_the_same() const {
+        for (size_t i = 0; i < runs.size(); i++) {
+            Words words = runs[i];
+            std::replace(words.begin(), words.end(), Bytes(1, '\0'), Bytes("/dev/null"));
+            if (run(Words{compiler} + words, true).out != texts[i]) return false;
+        }
+        return true;
     }
 
     // A line marker is `# N "P" FLAGS` or `#line N "P"`. The flag 1 stands where a file begins that is included.
@@ -858,7 +871,7 @@ static int compile(const Key &key, const Bytes &name, bool &is_kept) {
     need(ran.status != 126 && ran.status != 127, "it can't be started");  // (it may have too many words)
     fwrite(ran.out.data(), 1, ran.out.size(), stdout);
     show(ran.err, key);
-    is_kept = !ran.status && ran.out.empty() && is_as_it_was() && key.is_told(ran.err);
+    is_kept = !ran.status && ran.out.empty() && key.do_runs_write_the_same() && is_as_it_was() && key.is_told(ran.err);
     for (const auto &[path, may_lack] : key.outputs) {
         const bool is_written = is_file(path) && Stamp(path).text != before[path], has_rules = key.rules.count(path);
         const Bytes text = is_written ? content(path) : "", kept = has_rules ? told_text(text) : text;
