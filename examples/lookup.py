@@ -120,7 +120,7 @@ class Machine:  # answers questions, and remembers the answers, and how each fil
     def held(self, made):  # what is asked once more, but for what was made
         return [it for it in self.answers if it[0] in HELD and abspath(it[1]) not in made]
     def is_as_before(self, made, is_listed):  # (a list stands for the runs)
-        runs = [] if is_listed else [it for it in self.answers if it[0] == b"run"]
+        runs = [] if is_listed else [it for it in self.answers if it[:2] == (b"run", b"")]
         same = (self.look(*it) == self.answers[it] for it in [*self.held(made), *runs])
         return all(same) and self.is_old()
     def recalled(self, first):  # the name that a list has whose answers are the same today

@@ -2,8 +2,7 @@
 const HELP = `lookup.mjs COMPILER WORD ..: a compiler cache that answers the questions of DESCRIBE,
 a program (docs/PROTOCOL.md, A lookup). CACHE is a folder that only its owner may enter, made if
 there is none; clear it after an update of DESCRIBE. CACHE_LOG may name a file, for a line a call:
-hit, miss, unkept or given, and why. Status: the compiler's; 64: it is called wrongly; 127: the
-compiler can't be started.`;
+hit, miss, unkept or given, and why. Status: the compiler's; 64: a wrong call; 127: no compiler.`;
 // A text has a character a byte here, below 256, since names and words may be no UTF-8.
 import {createHash} from "node:crypto";
 import fs from "node:fs";
@@ -141,8 +140,9 @@ class Machine { // answers questions, and remembers the answers, and how each fi
   }
   isAsBefore(outputs) { // but for what was made
     const absolute = (path) => posix.resolve(this.cwd, path), made = outputs.map(absolute);
-    const isAsked = ([kind, it]) => HELD.includes(kind) && !made.includes(absolute(it));
-    const asked = [...this.answers.values()].filter((it) => isAsked(it.question));
+    const isLeft = ([kind, it]) => kind === "run" ? it : made.includes(absolute(it)); // (or a plan)
+    const isAsked = ({question: it}) => HELD.includes(it[0]) && !isLeft(it);
+    const asked = [...this.answers.values()].filter(isAsked);
     const isOld = ([path, was]) => stamp(path) === was && isOlder(was, this.start);
     const isSame = (it) => alike(this.look(it.question)) === alike(it.fields);
     return asked.every(isSame) && [...this.stamps].every(isOld);
